@@ -8,4 +8,4 @@ mod words;
 
 pub use kind::TextKind;
 pub use reading::read_route_line;
-pub use route_line::RouteLine;
+pub use route_line::{LONGEST_LINE, RouteLine};

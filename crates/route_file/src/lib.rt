@@ -1,0 +1,9 @@
+//! Reading a route file, in pieces of any size, and what it prints.
+#![tactic(auto)]
+
+mod answers;
+mod reader;
+mod state;
+
+pub use reader::RouteReader;
+pub use state::{LONGEST_FILE, RouteFault};

@@ -1,0 +1,138 @@
+//! The reader of a route file that comes in pieces.
+
+ghost use Rattle.std.specs.Prelude.{◌≡◌, ◌+◌, ◌≤◌, ◌^◌, ◌<◌, [], ◌∷◌, ◌++◌, List, ℕ, length, Some, None, OnOk, IfErr, MatchOption};
+ghost use Rattle.route_file.specs.Output.{empty_table};
+ghost use Rattle.route_file.specs.Progress.{outcome_with, IsOneLine, Ends, Refuses};
+
+use crate::state::{LONGEST_FILE, RouteFault, State};
+use schedule_text::{LONGEST_LINE, TextKind};
+use std::alloc::Global;
+use std::marker::Model;
+use vpn_base::{Or, split_once};
+
+/// Reads a route file in pieces of any size, and holds what its lines have printed. Contracts see
+/// how far it has come.
+#[derive(Drop)]
+pub struct RouteReader {
+    state: State,
+    kept: Vec<u8>,
+}
+
+impl Model for RouteReader {
+    ghost use Rattle.route_file.specs.Progress.{Progress, IsWithin};
+
+    ghost Value = { Progress };
+
+    ghost use Rattle.route_file.specs.State.{progress_of};
+
+    ghost view = { λ r. progress_of r.state r.kept.items };
+
+    ghost invariant = { λ r. IsWithin (progress_of r.state r.kept.items) };
+}
+
+// The first line of a text without its line feed, and what stands behind that.
+fn next_line(text: &[u8]) -> Option<(&[u8], &[u8])>
+    ensures { MatchOption result
+        (IsOneLine text.now)
+        (λ parts. IsOneLine parts.0.now × (text.now ≡ parts.0.now ++ 10 ∷ parts.1.now)) }
+{
+    match split_once(text, b'\n') {
+        None => None,
+        Some((line, rest)) => Some((line, rest)),
+    }
+}
+
+impl RouteReader {
+    /// Nothing was read yet.
+    pub fn new(alloc: Global) -> RouteReader
+        ensures { result ≡ record { printed = []; table = empty_table; count = 0; bytes = 0; kept = [] } }
+    {
+        RouteReader {
+            state: State::new(alloc),
+            kept: Vec::new(alloc),
+        }
+    }
+
+    /// What the lines so far have printed since it was cleared.
+    pub fn printed(&self) -> &[u8]
+        ensures { result.now ≡ self.now.printed }
+    {
+        self.state.text.as_bytes()
+    }
+
+    /// Forgets what was printed.
+    pub fn clear_printed(&mut self)
+        ensures { self.new ≡ record self.old { printed = [] } }
+    {
+        self.state.text.clear();
+    }
+
+    // Takes the line that ends here: what was kept and this, without the line feed.
+    fn end_line(&mut self, alloc: Global, end: &[u8]) -> Result<(), Or<RouteFault>>
+        requires { IsOneLine end.now }
+        ensures ok { OnOk result ((more : List ℕ) → outcome_with self.old (end.now ++ 10 ∷ more) ≡ outcome_with self.new more) }
+        ensures fed { OnOk result (self.new.bytes + length self.new.kept ≡ self.old.bytes + length self.old.kept + length end.now + 1) }
+        ensures refused { IfErr result (λ e. Refuses e (λ line kind. (more : List ℕ) →
+            Ends (outcome_with self.old (end.now ++ 10 ∷ more)) self.new.printed (Some (line, kind)))) }
+    {
+        let Ok(()) = self.kept.extend_from_slice(end) else {
+            return Err(Or::Memory);
+        };
+        let taken = self.state.take_line(alloc, self.kept.as_slice(), true);
+        self.kept.clear();
+        taken
+    }
+
+    // Keeps the front of a line whose end has not come. It is refused as soon as the line or the
+    // file can only be too long.
+    fn keep(&mut self, front: &[u8]) -> Result<(), Or<RouteFault>>
+        requires { IsOneLine front.now }
+        ensures ok { OnOk result ((more : List ℕ) → outcome_with self.old (front.now ++ more) ≡ outcome_with self.new more) }
+        ensures fed { OnOk result (self.new.bytes + length self.new.kept ≡ self.old.bytes + length self.old.kept + length front.now) }
+        ensures refused { IfErr result (λ e. Refuses e (λ line kind. (more : List ℕ) →
+            Ends (outcome_with self.old (front.now ++ more)) self.new.printed (Some (line, kind)))) }
+    {
+        let long = self.kept.len() + front.len() > LONGEST_LINE + 1;
+        let past = (self.kept.len() + front.len()) as u64 > LONGEST_FILE - self.state.bytes;
+        if long || past {
+            return Err(self.state.fault(TextKind::Long));
+        }
+        let Ok(()) = self.kept.extend_from_slice(front) else {
+            return Err(Or::Memory);
+        };
+        Ok(())
+    }
+
+    /// Reads the next piece of the file: each line that ends in it is judged and prints what it
+    /// prints. The first faulty line is refused; the file is not read further then. After want of
+    /// memory the reader has read a part of the piece, and is of no further use.
+    pub fn feed(&mut self, alloc: Global, piece: &[u8]) -> Result<(), Or<RouteFault>>
+        ensures ok { OnOk result ((more : List ℕ) → outcome_with self.old (piece.now ++ more) ≡ outcome_with self.new more) }
+        ensures fed { OnOk result (self.new.bytes + length self.new.kept ≡ self.old.bytes + length self.old.kept + length piece.now) }
+        ensures refused { IfErr result (λ e. Refuses e (λ line kind. (more : List ℕ) →
+            Ends (outcome_with self.old (piece.now ++ more)) self.new.printed (Some (line, kind)))) }
+    {
+        let mut rest = piece;
+        while let Some((line, behind)) = next_line(rest) {
+            match self.end_line(alloc, line) {
+                Ok(()) => rest = behind,
+                Err(e) => return Err(e),
+            }
+        }
+        self.keep(rest)
+    }
+
+    /// Reads the last line, where no line feed ends it. The file is then read whole.
+    pub fn finish(&mut self, alloc: Global) -> Result<(), Or<RouteFault>>
+        ensures ok { OnOk result (Ends (outcome_with self.old []) self.new.printed None) }
+        ensures refused { IfErr result (λ e. Refuses e (λ line kind.
+            Ends (outcome_with self.old []) self.new.printed (Some (line, kind)))) }
+    {
+        if self.kept.is_empty() {
+            return Ok(());
+        }
+        let taken = self.state.take_line(alloc, self.kept.as_slice(), false);
+        self.kept.clear();
+        taken
+    }
+}
