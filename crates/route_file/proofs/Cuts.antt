@@ -65,7 +65,7 @@ lines_ended k e more one_k one_e =
     let p : ℕ → Bool = λ c. c == 10 in
     let end : slice_split p (e ++ 10 ∷ more) ≡ (e ++ []) ∷ slice_split p more = split_append p e (10 ∷ more) [] (slice_split p more) one_e refl in
     let whole : slice_split p (k ++ (e ++ 10 ∷ more)) ≡ (k ++ (e ++ [])) ∷ slice_split p more =
-        split_append p k (e ++ 10 ∷ more) (e ++ []) (slice_split p more) one_k end in
+    split_append p k (e ++ 10 ∷ more) (e ++ []) (slice_split p more) one_k end in
     rw (whole, append-nil e) (ended_first (k ++ e) (slice_split p more) (has_part p more))
 
 -- two texts in one part are one text in one part

@@ -82,7 +82,7 @@ unfolding outcome_with
 never_fits p front one_kept one_front long some more =
     let whole = one_line_append p.kept front one_kept one_front in
     let first = begins_of (p.kept ++ front) more (slice_split (λ c. c == 10) more) refl whole
-        (omega (arith, length-append p.kept front)) (has_part (λ c. c == 10) more) in
+    (omega (arith, length-append p.kept front)) (has_part (λ c. c == 10) more) in
     let line : Line = record { body = first.body; ended = first.ended } in
     let parts : lines_of (p.kept ++ (front ++ more)) ≡ line ∷ first.rest = ap lines_of (sym (append_assoc p.kept front more)) ∙ first.is in
     let length_first : length p.kept + length front ≤ length first.body = omega (arith, length-append p.kept front, first.long) in

@@ -6,7 +6,7 @@ use Rattle.vpn_base.specs.declared.errors.Or.TheVariants.{Memory, Why}
 use Rattle.schedule_text.specs.declared.kind.TextKind.{TextKind}
 use Rattle.route_file.specs.declared.state.RouteFault.{RouteFault}
 use Rattle.route_file.specs.Lines.{Line, lines_of}
-use Rattle.route_file.specs.Output.{Outcome, outcome_from}
+use Rattle.route_file.specs.Output.{Outcome, outcome_from, printed_before, empty_table, routes}
 use Rattle.route_file.specs.Progress.{Progress, outcome_of, outcome_with, IsOneLine, Ends, Refuses}
 use Rattle.route_file.proofs.Cuts.{lines_ended, lines_last, lines_none}
 
@@ -62,3 +62,14 @@ pub last_ok : (p : Progress) (o : Outcome) → IsOneLine p.kept → 0 < length p
     outcome_of p (record { body = p.kept; ended = false } ∷ []) ≡ o → outcome_with p [] ≡ o
 unfolding outcome_with
 last_ok p o one some step = rw (append-nil p.kept, lines_last p.kept one some) step
+
+-- nothing was read yet
+pub begun_at : (p : Progress) → p.printed ≡ [] → p.table ≡ empty_table → p.count ≡ 0 → p.bytes ≡ 0 → p.kept ≡ [] →
+    (text : List ℕ) → outcome_with p text ≡ routes text
+unfolding outcome_with routes
+begun_at p printed table count bytes kept text = rw (printed, table, count, bytes, kept) refl
+
+-- what was printed is forgotten
+pub cleared_at : (p : Progress) (rest : List ℕ) → outcome_with p rest ≡ printed_before p.printed (outcome_with (record p { printed = [] }) rest)
+unfolding outcome_with
+cleared_at p rest = refl

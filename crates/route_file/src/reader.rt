@@ -1,7 +1,7 @@
 //! The reader of a route file that comes in pieces.
 
 ghost use Rattle.std.specs.Prelude.{◌≡◌, ◌+◌, ◌≤◌, ◌^◌, ◌<◌, [], ◌∷◌, ◌++◌, List, ℕ, length, Some, None, OnOk, IfErr, MatchOption};
-ghost use Rattle.route_file.specs.Output.{empty_table};
+ghost use Rattle.route_file.specs.Output.{empty_table, printed_before, routes};
 ghost use Rattle.route_file.specs.Progress.{outcome_with, IsOneLine, Ends, Refuses};
 
 use crate::state::{LONGEST_FILE, RouteFault, State};
@@ -45,7 +45,8 @@ fn next_line(text: &[u8]) -> Option<(&[u8], &[u8])>
 impl RouteReader {
     /// Nothing was read yet.
     pub fn new(alloc: Global) -> RouteReader
-        ensures { result ≡ record { printed = []; table = empty_table; count = 0; bytes = 0; kept = [] } }
+        ensures exact { result ≡ record { printed = []; table = empty_table; count = 0; bytes = 0; kept = [] } }
+        ensures begun { (text : List ℕ) → outcome_with result text ≡ routes text }
     {
         RouteReader {
             state: State::new(alloc),
@@ -62,7 +63,8 @@ impl RouteReader {
 
     /// Forgets what was printed.
     pub fn clear_printed(&mut self)
-        ensures { self.new ≡ record self.old { printed = [] } }
+        ensures cleared { self.new ≡ record self.old { printed = [] } }
+        ensures left { (rest : List ℕ) → outcome_with self.old rest ≡ printed_before self.old.printed (outcome_with self.new rest) }
     {
         self.state.text.clear();
     }
@@ -89,6 +91,7 @@ impl RouteReader {
         requires { IsOneLine front.now }
         ensures ok { OnOk result ((more : List ℕ) → outcome_with self.old (front.now ++ more) ≡ outcome_with self.new more) }
         ensures fed { OnOk result (self.new.bytes + length self.new.kept ≡ self.old.bytes + length self.old.kept + length front.now) }
+        ensures small { OnOk result (self.new.bytes + length self.new.kept ≤ 2 ^ 40) }
         ensures refused { IfErr result (λ e. Refuses e (λ line kind. (more : List ℕ) →
             Ends (outcome_with self.old (front.now ++ more)) self.new.printed (Some (line, kind)))) }
     {
@@ -109,6 +112,7 @@ impl RouteReader {
     pub fn feed(&mut self, alloc: Global, piece: &[u8]) -> Result<(), Or<RouteFault>>
         ensures ok { OnOk result ((more : List ℕ) → outcome_with self.old (piece.now ++ more) ≡ outcome_with self.new more) }
         ensures fed { OnOk result (self.new.bytes + length self.new.kept ≡ self.old.bytes + length self.old.kept + length piece.now) }
+        ensures small { OnOk result (self.new.bytes + length self.new.kept ≤ 2 ^ 40) }
         ensures refused { IfErr result (λ e. Refuses e (λ line kind. (more : List ℕ) →
             Ends (outcome_with self.old (piece.now ++ more)) self.new.printed (Some (line, kind)))) }
     {

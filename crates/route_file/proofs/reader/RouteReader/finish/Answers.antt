@@ -1,4 +1,4 @@
-use Rattle.std.proofs.Common.{◌≡◌, ℕ, ◌+◌, ◌<◌, ◌∷◌, [], ◌∙◌, List, length, arith, subst, false}
+use Rattle.std.proofs.Common.{◌≡◌, ℕ, ◌<◌, ◌∷◌, [], ◌∙◌, List, length, arith, subst, false}
 use Rattle.std.specs.Prelude.{Some, None}
 use Rattle.std.proofs.lemmas.Bool.Decides.{nat_tests}
 use Rattle.std.proofs.lemmas.List.{nil_from_length}
@@ -23,9 +23,9 @@ returns-clause-ok c =
     let q = progress_of c.take_line-taken.new.self [] in
     let some : 0 < length c.self.inside.kept.items = grind (arith, nat_tests) in
     rw (← c.self.view_is) (on_ok c.take_line-taken.result
-        (λ step. last_ok p (record { printed = q.printed; fault = None }) c.self.invariant.one_line some
-            (subst (λ (b : List ℕ). outcome_of p (record { body = b; ended = false } ∷ []) ≡ outcome_of q []) c.as_slice.ensures.value (step []) ∙ no_line_left q))
-        c.take_line-taken.ensures.ok)
+    (λ step. last_ok p (record { printed = q.printed; fault = None }) c.self.invariant.one_line some
+    (subst (λ (b : List ℕ). outcome_of p (record { body = b; ended = false } ∷ []) ≡ outcome_of q []) c.as_slice.ensures.value (step []) ∙ no_line_left q))
+    c.take_line-taken.ensures.ok)
 
 pub returns-clause-refused : goal.returns-clause-refused
 returns-clause-refused c =
@@ -33,9 +33,9 @@ returns-clause-refused c =
     let printed = string_bytes c.take_line-taken.new.self.text in
     let some : 0 < length c.self.inside.kept.items = grind (arith, nat_tests) in
     let P : ℕ → TextKind → Type 0 = λ line kind. (rest : List Line) →
-        Ends (outcome_of p (record { body = c.as_slice.result.now; ended = false } ∷ rest)) printed (Some (line, kind)) in
+    Ends (outcome_of p (record { body = c.as_slice.result.now; ended = false } ∷ rest)) printed (Some (line, kind)) in
     let Q : ℕ → TextKind → Type 0 = λ line kind. Ends (outcome_with p []) printed (Some (line, kind)) in
     rw (← c.self.view_is) (if_refused P Q c.take_line-taken.result
-        (λ line kind step. last_ok p (record { printed = printed; fault = Some (line, kind) }) c.self.invariant.one_line some
-            (subst (λ (b : List ℕ). Ends (outcome_of p (record { body = b; ended = false } ∷ [])) printed (Some (line, kind))) c.as_slice.ensures.value (step [])))
-        c.take_line-taken.ensures.refused)
+    (λ line kind step. last_ok p (record { printed = printed; fault = Some (line, kind) }) c.self.invariant.one_line some
+    (subst (λ (b : List ℕ). Ends (outcome_of p (record { body = b; ended = false } ∷ [])) printed (Some (line, kind))) c.as_slice.ensures.value (step [])))
+    c.take_line-taken.ensures.refused)
