@@ -56,7 +56,9 @@ impl RouteReader {
 
     /// What the lines so far have printed since it was cleared.
     pub fn printed(&self) -> &[u8]
-        ensures { result.now ≡ self.now.printed }
+        ensures same { result.now ≡ self.now.printed }
+        ensures first { (rest : List ℕ) → outcome_with self.now rest
+            ≡ printed_before self.now.printed (outcome_with (record self.now { printed = [] }) rest) }
     {
         self.state.text.as_bytes()
     }

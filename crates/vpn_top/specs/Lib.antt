@@ -1,0 +1,6 @@
+pub mod Words
+pub mod Messages
+pub mod Partly
+pub mod Written
+pub mod Going
+pub mod Ends
