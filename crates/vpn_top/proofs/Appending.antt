@@ -1,5 +1,5 @@
 -- What a sink holds after several writes.
-use Rattle.std.proofs.Common.{◌≡◌, ℕ, ◌+◌, ◌-◌, ◌≤◌, List, ◌++◌, length, take, drop, length-drop, refl, ap, ◌∙◌, sym, append_assoc, append-nil, take-add, [], arith}
+use Rattle.std.proofs.Common.{◌≡◌, ℕ, ◌+◌, ◌-◌, List, ◌++◌, length, take, drop, length-drop, refl, ap, ◌∙◌, sym, append_assoc, append-nil, take-add, [], arith}
 use Rattle.std.specs.Prelude.{Option, Some, None}
 use Rattle.std.proofs.lemmas.List.{take_all}
 use Rattle.vpn_base.specs.Sink.{appended}

@@ -1,11 +1,11 @@
 -- Counts of faults that began earlier.
-use Rattle.std.proofs.Common.{◌≡◌, ℕ, ◌≤◌, List, arith}
+use Rattle.std.proofs.Common.{ℕ, ◌≤◌, List, arith}
 use Rattle.std.specs.Prelude.{Option, Some, None}
 use Rattle.vpn_base.specs.Answers.{Rose}
 use Rattle.vpn_base.specs.Files.{Holding}
 use Rattle.vpn_top.specs.declared.refusal.Refusal.{Refusal}
 use Rattle.vpn_top.specs.declared.refusal.Refusal.TheVariants as refusals
-use Rattle.vpn_top.specs.Ends.{Ended, Counts}
+use Rattle.vpn_top.specs.Ends.{Ended}
 
 rose_since : (earlier before after : ℕ) → earlier ≤ before → Rose before after → Rose earlier after
 rose_since earlier before after falls rose = omega arith

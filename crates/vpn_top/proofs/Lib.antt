@@ -1,3 +1,4 @@
 pub mod Appending
 pub mod Runs
 pub mod Counting
+pub mod Answers

@@ -1,6 +1,6 @@
 -- How a run goes on and ends.
-use Rattle.std.proofs.Common.{◌≡◌, ℕ, ◌+◌, ◌-◌, ◌≤◌, ◌<◌, List, [], ◌++◌, length, take, drop, refl, ap, ◌∙◌, sym, append_assoc, append-nil, take-add, length-drop, length-take-le, min, inl, inr, arith}
-use Rattle.std.specs.Prelude.{Option, Some, None}
+use Rattle.std.proofs.Common.{◌≡◌, ℕ, ◌+◌, ◌≤◌, ◌<◌, List, [], ◌++◌, length, take, drop, refl, ap, ◌∙◌, sym, append_assoc, append-nil, take-add, length-drop, length-take-le, min, inl, inr, arith}
+use Rattle.std.specs.Prelude.{Option}
 use Rattle.std.proofs.lemmas.List.{take_all, take-append-drop, take-append-le}
 use Rattle.std.proofs.lemmas.Bool.{cases_lt}
 use Rattle.std.proofs.Math.Seq.{take-append-add, take-append_seam}
@@ -25,7 +25,7 @@ all_written h before c after text fault s wrote = record {
 }
 
 -- the bytes of a whole file are those of the file
-file_of : (h : Holding) (bytes : List ℕ) → IsWhole h bytes → IsFile h bytes
+pub file_of : (h : Holding) (bytes : List ℕ) → IsWhole h bytes → IsFile h bytes
 file_of Untold bytes whole = tt
 file_of Absent bytes whole = absurd whole
 file_of (Held held) bytes whole = whole
@@ -70,7 +70,7 @@ pub part_of : (h : Holding) (before c : Option (List ℕ)) (at : ℕ) (p : Progr
 part_of h before c at p s =
     let file = rest_of h at s.bytes s.front in
     let printed : (routes (s.bytes ++ file.rest)).printed ≡ s.written ++ (outcome_with p file.rest).printed =
-        ap (λ (o : Outcome). o.printed) (s.outcome file.rest) in
+    ap (λ (o : Outcome). o.printed) (s.outcome file.rest) in
     record {
       bytes = s.bytes ++ file.rest;
       length = length s.written;
@@ -133,9 +133,9 @@ printed_in_part h before c after at p s part first =
     let tail = (outcome_with (record p { printed = [] }) file.rest).printed in
     let k = min part.length (length p.printed) in
     let whole : (routes (s.bytes ++ file.rest)).printed ≡ s.written ++ (p.printed ++ tail) =
-        ap (λ (o : Outcome). o.printed) (s.outcome file.rest ∙ ap (printed_before s.written) (first file.rest)) in
+    ap (λ (o : Outcome). o.printed) (s.outcome file.rest ∙ ap (printed_before s.written) (first file.rest)) in
     let front : take (length s.written + k) (routes (s.bytes ++ file.rest)).printed ≡ s.written ++ take part.length p.printed =
-        ap (take (length s.written + k)) whole ∙ (take-append-add s.written (p.printed ++ tail) k ∙ ap (λ t. s.written ++ t) (front_of part.length p.printed tail)) in
+    ap (take (length s.written + k)) whole ∙ (take-append-add s.written (p.printed ++ tail) k ∙ ap (λ t. s.written ++ t) (front_of part.length p.printed tail)) in
     record {
       bytes = s.bytes ++ file.rest;
       length = length s.written + k;
@@ -154,7 +154,7 @@ rest_behind Absent at bytes piece front next = absurd next
 rest_behind (Held held) at bytes piece front next =
     let n = length piece in
     let behind : piece ++ drop n (drop at held) ≡ drop at held =
-        ap (λ p. p ++ drop n (drop at held)) next.0 ∙ take-append-drop n (drop at held) in
+    ap (λ p. p ++ drop n (drop at held)) next.0 ∙ take-append-drop n (drop at held) in
     record {
       rest = drop n (drop at held);
       is = rw front.0 (ap (λ t. take at held ++ t) behind ∙ take-append-drop at held);
@@ -188,7 +188,6 @@ finished_here h before c at p text fault end s ends = record {
   contents = s.contents;
   outcome = ap routes (sym (append-nil s.bytes)) ∙ (s.outcome [] ∙ ap (printed_before s.written) ends);
 }
-
 
 -- what was copied tells where the file ends and what stands next in it
 pub end_of : (h : Holding) (at : ℕ) (buffer : List ℕ) → 0 < length buffer → Copied h at 0 buffer → IsEnd h at

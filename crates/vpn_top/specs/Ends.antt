@@ -1,8 +1,7 @@
 -- How the reading of a route file ends.
-use Rattle.std.specs.Prelude.{◌≡◌, ℕ, ◌+◌, List, [], Option, Some, None}
+use Rattle.std.specs.Prelude.{◌≡◌, ℕ, ◌+◌, List, Option, Some, None}
 use Rattle.vpn_base.specs.Answers.{Rose}
 use Rattle.vpn_base.specs.Files.{Holding, Absent, IsMissing}
-use Rattle.vpn_base.specs.Sink.{appended}
 use Rattle.vpn_top.specs.declared.refusal.Refusal.{Refusal}
 use Rattle.vpn_top.specs.declared.refusal.Refusal.TheVariants as refusals
 use Rattle.vpn_top.specs.declared.route.Turn.{Turn}

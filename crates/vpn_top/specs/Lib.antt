@@ -4,3 +4,5 @@ pub mod Partly
 pub mod Written
 pub mod Going
 pub mod Ends
+pub mod Answer
+pub mod Told

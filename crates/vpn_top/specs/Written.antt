@@ -3,7 +3,7 @@ use Rattle.std.specs.Prelude.{◌≡◌, ℕ, List, [], take, Option}
 use Rattle.schedule_text.specs.declared.kind.TextKind.{TextKind}
 use Rattle.vpn_base.specs.Files.{Holding, Untold, Absent, Held}
 use Rattle.vpn_base.specs.Sink.{appended}
-use Rattle.route_file.specs.Output.{Outcome, routes}
+use Rattle.route_file.specs.Output.{routes}
 
 -- these are all the bytes of the file, where it is told
 abbrev pub IsWhole : Holding → List ℕ → Type 0

@@ -3,6 +3,8 @@
 
 mod refusal;
 mod route;
+mod top;
 mod writing;
 
 pub use refusal::Refusal;
+pub use top::{Outside, vpn_main};

@@ -28,7 +28,7 @@ fn settle<S: Sink>(text: &[u8], fault: Option<RouteFault>, out: &mut S) -> Optio
     ensures ended { (holding : Holding) (before : Option (List ℕ)) (files_before files_after : ℕ) →
         Settled holding before (S.contents out.old) text.now (fault_of fault) →
         Ended result holding before (S.contents out.new)
-            (record { files_before = files_before; files_after = files_after; out_before = S.faults out.old; out_after = S.faults out.new }) }
+        (record { files_before = files_before; files_after = files_after; out_before = S.faults out.old; out_after = S.faults out.new }) }
     ensures never_falls { S.faults out.old ≤ S.faults out.new }
 {
     match write_all(out, text) {
@@ -45,7 +45,7 @@ fn finish<S: Sink>(alloc: Global, reader: &mut RouteReader, out: &mut S) -> Opti
     ensures ended { (holding : Holding) (before : Option (List ℕ)) (at files_before files_after : ℕ) →
         IsEnd holding at → Going holding before (S.contents out.old) at reader.old →
         Ended result holding before (S.contents out.new)
-            (record { files_before = files_before; files_after = files_after; out_before = S.faults out.old; out_after = S.faults out.new }) }
+        (record { files_before = files_before; files_after = files_after; out_before = S.faults out.old; out_after = S.faults out.new }) }
     ensures never_falls { S.faults out.old ≤ S.faults out.new }
 {
     match reader.finish(alloc) {
@@ -56,16 +56,11 @@ fn finish<S: Sink>(alloc: Global, reader: &mut RouteReader, out: &mut S) -> Opti
 }
 
 // Reads a piece of the file, and writes what its lines print.
-fn read_piece<S: Sink>(
-    alloc: Global,
-    piece: &[u8],
-    reader: &mut RouteReader,
-    out: &mut S,
-) -> Turn
+fn read_piece<S: Sink>(alloc: Global, piece: &[u8], reader: &mut RouteReader, out: &mut S) -> Turn
     ensures turned { (holding : Holding) (before : Option (List ℕ)) (at files_before files_after : ℕ) →
         IsNext holding at piece.now → Going holding before (S.contents out.old) at reader.old →
         Turned result holding before (S.contents out.new) at reader.new
-            (record { files_before = files_before; files_after = files_after; out_before = S.faults out.old; out_after = S.faults out.new }) }
+        (record { files_before = files_before; files_after = files_after; out_before = S.faults out.old; out_after = S.faults out.new }) }
     ensures more { Went result (λ n. (n ≡ length piece.now)
         × (reader.new.bytes + length reader.new.kept ≡ reader.old.bytes + length reader.old.kept + n)
         × (reader.new.bytes + length reader.new.kept ≤ 2 ^ 40)) }
@@ -97,7 +92,7 @@ fn take_turn<F: Files, S: Sink>(
     requires { 0 < length buffer.old }
     ensures turned { (before : Option (List ℕ)) → Going (F.holds files.old name.now) before (S.contents out.old) at reader.old →
         Turned result (F.holds files.old name.now) before (S.contents out.new) at reader.new
-            (record { files_before = F.faults files.old; files_after = F.faults files.new; out_before = S.faults out.old; out_after = S.faults out.new }) }
+        (record { files_before = F.faults files.old; files_after = F.faults files.new; out_before = S.faults out.old; out_after = S.faults out.new }) }
     ensures more { Went result (λ n. (0 < n)
         × (reader.new.bytes + length reader.new.kept ≡ reader.old.bytes + length reader.old.kept + n)
         × (reader.new.bytes + length reader.new.kept ≤ 2 ^ 40)) }

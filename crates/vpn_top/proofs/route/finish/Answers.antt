@@ -1,4 +1,3 @@
-use Rattle.std.specs.Prelude.{Some, None}
 use Rattle.vpn_top.proofs.Runs.{part_of}
 use Rattle.vpn_top.proofs.route.finish.Goals as goal
 

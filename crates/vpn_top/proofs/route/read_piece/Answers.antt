@@ -8,7 +8,7 @@ returns-in-Ok-write_all-clause-turned g c = λ h before at files_before files_af
     let contents = g.S.Sink.contents in
     let read = piece_read h before (contents c.args.out.now) at c.args.reader.now c.feed.new.self c.args.piece.now next going c.in-Ok.ensures.ok in
     printed_written h before (contents c.args.out.now) (contents c.write_all.new.sink) (at + length c.args.piece.now) c.feed.new.self c.clear_printed.new.self
-        read (rw c.printed.ensures.same at c.in-Ok-write_all.ensures.ok) c.clear_printed.ensures.left
+    read (rw c.printed.ensures.same at c.in-Ok-write_all.ensures.ok) c.clear_printed.ensures.left
 
 pub returns-in-Err-clause-turned : goal.returns-in-Err-clause-turned
 returns-in-Err-clause-turned g c = λ h before at files_before files_after next going.
@@ -23,9 +23,9 @@ pub returns-in-Err-Why-clause-turned : goal.returns-in-Err-Why-clause-turned
 returns-in-Err-Why-clause-turned g c = λ h before at files_before files_after next going.
     let contents = g.S.Sink.contents in
     c.settle.ensures.ended h before files_before files_after
-        (rw c.printed-in-Err-Why.ensures.same
-            (refused_here h before (contents c.args.out.now) at c.args.reader.now c.args.piece.now c.feed.new.self.printed (Some (c.in-Err-Why.fault.line, c.in-Err-Why.fault.kind))
-                next going (rw c.in-Err-Why.field-0-is at c.in-Err-Why.ensures.refused)))
+    (rw c.printed-in-Err-Why.ensures.same
+    (refused_here h before (contents c.args.out.now) at c.args.reader.now c.args.piece.now c.feed.new.self.printed (Some (c.in-Err-Why.fault.line, c.in-Err-Why.fault.kind))
+    next going (rw c.in-Err-Why.field-0-is at c.in-Err-Why.ensures.refused)))
 
 pub returns-in-Err-Memory-clause-turned : goal.returns-in-Err-Memory-clause-turned
 returns-in-Err-Memory-clause-turned g c = λ h before at files_before files_after next going.

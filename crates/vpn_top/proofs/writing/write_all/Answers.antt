@@ -1,4 +1,4 @@
-use Rattle.std.proofs.Common.{◌+◌, take, drop, arith, length-drop}
+use Rattle.std.proofs.Common.{arith, length-drop}
 use Rattle.vpn_top.proofs.Appending.{more_written, suffix}
 use Rattle.vpn_top.proofs.writing.write_all.Goals as goal
 
