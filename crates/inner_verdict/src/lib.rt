@@ -75,26 +75,6 @@ fn by_destination(between: bool, sender: Option<Cid>, target: Option<Cid>) -> Ve
     }
 }
 
-fn by_owners(
-    between: bool,
-    sender: Option<Cid>,
-    found: Option<Cid>,
-    target: Option<Cid>,
-) -> Verdict
-    ensures { result ≡ sourced between sender found target }
-{
-    match sender {
-        None => by_destination(between, None, target),
-        Some(client) => {
-            if is_owned(client, found) {
-                by_destination(between, Some(client), target)
-            } else {
-                Verdict::BadSource { owner: found }
-            }
-        }
-    }
-}
-
 /// The verdict on a packet from the client `sender`, or from the device where that is None, over
 /// the rows of the table. `between` says whether clients may reach each other. The cases are judged
 /// in the order of the variants of `Verdict`, and the first that holds is the answer. It looks for
@@ -121,7 +101,17 @@ pub fn verdict_on<L: Ledger>(
     if is_for_many(subnet, destination) {
         return Verdict::Multicast;
     }
-    let found = table.owner(inner.source(), steps);
-    let target = table.owner(destination, steps);
-    by_owners(between, sender, found, target)
+    match sender {
+        None => by_destination(between, None, table.owner(destination, steps)),
+        Some(client) => {
+            let found = table.owner(inner.source(), steps);
+            if !is_owned(client, found) {
+                Verdict::BadSource { owner: found }
+            } else if !between {
+                Verdict::ToDevice
+            } else {
+                by_destination(between, sender, table.owner(destination, steps))
+            }
+        }
+    }
 }

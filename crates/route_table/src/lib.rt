@@ -3,7 +3,7 @@
 
 ghost use Rattle.std.specs.Prelude.{◌≡◌, ◌+◌, ◌≤◌, [], ◌∷◌, ◌++◌, length, OnOk, OnErr, slice_get};
 ghost use Rattle.route_table.specs.Owner.{owner, without};
-ghost use Rattle.route_table.specs.Walk.{best_after};
+ghost use Rattle.route_table.specs.Walk.{longer};
 
 use std::alloc::Global;
 use std::marker::Model;
@@ -26,13 +26,10 @@ impl Model for RouteTable {
     ghost view = { λ t. t.rows.items };
 }
 
-// The best row after one more.
-fn best_of(best: Option<(Prefix, Cid)>, row: (Prefix, Cid), a: Ip4) -> Option<(Prefix, Cid)>
-    ensures { result ≡ best_after a best row }
+// Of the best row so far and a later one that contains the address too, the one that counts.
+fn longer_of(best: Option<(Prefix, Cid)>, row: (Prefix, Cid)) -> Option<(Prefix, Cid)>
+    ensures { result ≡ longer best row }
 {
-    if !row.0.contains(a) {
-        return best;
-    }
     match best {
         None => Some(row),
         Some(best) => {
@@ -88,7 +85,9 @@ impl RouteTable {
         let mut best = None;
         for row in &self.rows {
             steps.tick();
-            best = best_of(best, *row, a);
+            if row.0.contains(a) {
+                best = longer_of(best, *row);
+            }
         }
         match best {
             None => None,

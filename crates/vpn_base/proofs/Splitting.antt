@@ -1,10 +1,11 @@
 -- Lists at the first place that passes a test.
-use Rattle.std.proofs.Common.{◌≡◌, ℕ, ◌+◌, ◌-◌, ◌<◌, ◌≤◌, Bool, true, false, List, [], ◌∷◌, length, take, drop, refl, arith, subst, length-drop}
-use Rattle.std.specs.Prelude.{Some, None, position, cond, nat_lt}
+use Rattle.std.proofs.Common.{◌≡◌, ℕ, ◌+◌, ◌-◌, ◌<◌, ◌≤◌, Bool, true, false, List, [], ◌∷◌, length, get_or, take, drop, refl, arith, subst, length-drop}
+use Rattle.std.specs.Prelude.{Option, Some, None, position, cond, nat_lt}
 use Rattle.std.specs.List.{slice_split, position_or_len}
 use Rattle.std.proofs.lemmas.List.{take_all}
 use Rattle.std.proofs.lemmas.List.Elements.{All-from_get_or}
-use Rattle.std.proofs.lemmas.List.Sums.{fails_before_first}
+use Rattle.std.proofs.lemmas.List.Sums.{fails_before_first, position_or_len_is}
+use Rattle.memchr.specs.Find.{IsFirstByte}
 use Rattle.std.proofs.lemmas.List.Splits.{slice_split_none, slice_split_first, length-slice_split}
 use Rattle.vpn_base.specs.Address.{of_parts}
 
@@ -41,3 +42,20 @@ pub five_parts : (p : ℕ → Bool) (text a after_a b after_b c after_c d after_
     of_parts (slice_split p text) ≡ None
 five_parts p text a after_a b after_b c after_c d after_d one two three four =
     rw (one, two, three, four) (not_four a b c d (slice_split p after_d) (omega (arith, length-slice_split p after_d)))
+
+not_passed : (b : Bool) → (b ≡ true → ⊥) → b ≡ false
+not_passed true never = absurd (never refl)
+not_passed false never = refl
+
+found_at : (p : ℕ → Bool) (xs : List ℕ) (i : ℕ) → position_or_len p xs ≡ i → i < length xs → position p xs ≡ Some i
+found_at p xs i is within = rw is (grind arith)
+
+found_nowhere : (p : ℕ → Bool) (xs : List ℕ) → position_or_len p xs ≡ length xs → position p xs ≡ None
+found_nowhere p xs is = rw is (grind arith)
+
+-- the first place at which a byte passes a test is its position
+pub position_first : (p : ℕ → Bool) (xs : List ℕ) (r : Option ℕ) → IsFirstByte p xs r → position p xs ≡ r
+position_first p xs None nowhere =
+    found_nowhere p xs (position_or_len_is p xs (length xs) 0 (omega arith) (λ k before. not_passed (p (get_or xs k 0)) (nowhere k (omega arith) before)) (λ past. absurd (omega arith)))
+position_first p xs (Some i) first =
+    found_at p xs i (position_or_len_is p xs i 0 (omega (arith, first.0.high)) (λ k before. not_passed (p (get_or xs k 0)) (first.0.before k (omega arith) before)) (λ _. first.1)) first.0.high

@@ -77,15 +77,14 @@ impl Prefix {
     pub fn contains(&self, a: Ip4) -> bool
         ensures { result ≡ contains self.now a }
     {
-        let size = 1u64 << (32 - self.len);
-        u64::from(a.0) / size == u64::from(self.net.0) / size
+        u64::from(a.0) >> (32 - self.len) == u64::from(self.net.0) >> (32 - self.len)
     }
 }
 
 fn first_place(text: &[u8], byte: u8) -> Option<usize>
     ensures { result ≡ position (λ c. c == byte) text.now }
 {
-    text.iter().position(|c| *c == byte)
+    memchr::memchr(byte, text)
 }
 
 /// What stands before the first such byte, and what after it. It is None exactly where there is
