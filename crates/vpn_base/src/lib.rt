@@ -23,3 +23,6 @@ pub use names::{
 pub use number::read_number;
 pub use outside::{Failed, FileFault, Files, Sink};
 pub use steps::Steps;
+
+#[cfg(test)]
+mod tests;
