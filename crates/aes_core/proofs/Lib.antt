@@ -1,0 +1,4 @@
+pub mod WordBytes
+pub mod TableEntries
+pub mod Columns
+pub mod InPlace

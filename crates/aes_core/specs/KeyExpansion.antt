@@ -27,17 +27,18 @@ round_count key = key_length key + 6
 abbrev pub word_at : List (List ℕ) → ℕ → List ℕ
 word_at words i = slice_index_or words i []
 
--- what is added to word i - Nk to make word i: word i - 1, transformed where the standard says so (5.2)
-abbrev pub added_word : ℕ → List (List ℕ) → ℕ → List ℕ
-added_word nk words i =
-    if i % nk == 0 then xor_bytes (sub_word (rot_word (word_at words (i - 1)))) (rcon (i / nk))
-    else (if nat_lt 6 nk && (i % nk == 4) then sub_word (word_at words (i - 1)) else word_at words (i - 1))
+-- what is added to word i - Nk to make word i: word i - 1, here previous, transformed where the
+-- standard says so (5.2)
+abbrev pub added_word : ℕ → List ℕ → ℕ → List ℕ
+added_word nk previous i =
+    if i % nk == 0 then xor_bytes (sub_word (rot_word previous)) (rcon (i / nk))
+    else (if nat_lt 6 nk && (i % nk == 4) then sub_word previous else previous)
 
 -- word i, from the key and the words before it (5.2)
 abbrev pub next_word : List ℕ → List (List ℕ) → ℕ → List ℕ
 next_word key words i =
     if nat_lt i (key_length key) then take 4 (drop (4 * i) key)
-    else xor_bytes (word_at words (i - key_length key)) (added_word (key_length key) words i)
+    else xor_bytes (word_at words (i - key_length key)) (added_word (key_length key) (word_at words (i - 1)) i)
 
 -- the first n words of the key schedule
 unfoldable pub key_words : List ℕ → ℕ → List (List ℕ)

@@ -5,19 +5,19 @@ ghost use Rattle.std.specs.Int.{to_be_bytes, w128};
 ghost use Rattle.aes_core.specs.Field.{xor_bytes};
 ghost use Rattle.aes_core.specs.Words.{state_bytes, word_bytes};
 
-use crate::words::load_word;
+use crate::words::{State, load_word};
 
-// The four words of a counter.
+// The block that a counter is.
 #[inline(always)]
-pub(crate) fn counter_block(counter: u128) -> [u32; 4]
+pub(crate) fn counter_block(counter: u128) -> State
     ensures { state_bytes result ≡ to_be_bytes w128 counter }
 {
-    [
-        (counter >> 96) as u32,
-        (counter >> 64 & 0xffff_ffff) as u32,
-        (counter >> 32 & 0xffff_ffff) as u32,
-        (counter & 0xffff_ffff) as u32,
-    ]
+    State {
+        a: (counter >> 96) as u32,
+        b: (counter >> 64 & 0xffff_ffff) as u32,
+        c: (counter >> 32 & 0xffff_ffff) as u32,
+        d: (counter & 0xffff_ffff) as u32,
+    }
 }
 
 // Adds a word to the four bytes at `at`.
@@ -30,17 +30,16 @@ fn xor_word(bytes: &mut [u8], at: usize, word: u32)
     bytes[at..at + 4].copy_from_slice(&sum.to_be_bytes());
 }
 
-// Adds a block of four words to the 16 bytes at `at`.
+// Adds a block to the 16 bytes at `at`.
 #[inline(always)]
-pub(crate) fn xor_block(bytes: &mut [u8], at: usize, block: [u32; 4])
+pub(crate) fn xor_block(bytes: &mut [u8], at: usize, block: State)
     requires { at + 16 ≤ length bytes.old }
     ensures { bytes.new ≡ take at bytes.old ++ xor_bytes (drop at bytes.old) (state_bytes block) }
 {
-    let [a, b, c, d] = block;
-    xor_word(bytes, at, a);
-    xor_word(bytes, at + 4, b);
-    xor_word(bytes, at + 8, c);
-    xor_word(bytes, at + 12, d);
+    xor_word(bytes, at, block.a);
+    xor_word(bytes, at + 4, block.b);
+    xor_word(bytes, at + 8, block.c);
+    xor_word(bytes, at + 12, block.d);
 }
 
 // Adds the front of a block to the bytes from `at` on, of which there are fewer than 16.

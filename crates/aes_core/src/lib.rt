@@ -16,7 +16,7 @@ use counter::{counter_block, xor_block, xor_front};
 use rounds::encrypt;
 use schedule::{SCHEDULE_LEN, expand};
 use std::marker::Model;
-use words::{bytes_of, words_of};
+use words::State;
 
 /// An AES key with its schedule expanded once. Contracts see it as the key's bytes, 16 or 32 of them.
 #[derive(Drop)]
@@ -62,7 +62,7 @@ impl AesKey {
     pub fn block(&self, block: [u8; 16]) -> [u8; 16]
         ensures { result ≡ cipher self.now block }
     {
-        bytes_of(encrypt(&self.words, self.rounds, words_of(block)))
+        encrypt(&self.words, self.rounds, State::from_block(&block)).to_block()
     }
 
     /// Adds the key stream of the counter mode to the bytes in place, as many as there are: it
@@ -80,7 +80,7 @@ impl AesKey {
         }
         if bytes.len() % 16 > 0 {
             let stream = encrypt(&self.words, self.rounds, counter_block(counter));
-            xor_front(bytes, 16 * whole, &bytes_of(stream));
+            xor_front(bytes, 16 * whole, &stream.to_block());
         }
     }
 }

@@ -10,6 +10,7 @@ ghost use Rattle.aes_core.specs.Words.{four_words, state_bytes, word_bytes};
 
 use crate::schedule::SCHEDULE_LEN;
 use crate::tables::{mixed_row0, mixed_row1, mixed_row2, mixed_row3, sbox};
+use crate::words::State;
 
 // Byte 3, 2, 1 or 0 of a word, of which byte 3 is the highest.
 #[inline(always)]
@@ -67,59 +68,57 @@ fn final_column(a: u32, b: u32, c: u32, d: u32, key: u32) -> u32
 
 // AddRoundKey with the round key that begins at word `at`.
 #[inline(always)]
-fn add_key(state: [u32; 4], words: &[u32; SCHEDULE_LEN], at: usize) -> [u32; 4]
+fn add_key(state: State, words: &[u32; SCHEDULE_LEN], at: usize) -> State
     requires { at ≤ 56 }
     ensures { state_bytes result ≡ add_round_key (state_bytes state) (four_words words.now at) }
 {
-    let [a, b, c, d] = state;
-    [
-        a ^ words[at],
-        b ^ words[at + 1],
-        c ^ words[at + 2],
-        d ^ words[at + 3],
-    ]
+    State {
+        a: state.a ^ words[at],
+        b: state.b ^ words[at + 1],
+        c: state.c ^ words[at + 2],
+        d: state.d ^ words[at + 3],
+    }
 }
 
 // One round, with the round key that begins at word `at`.
 #[inline(always)]
-fn round(state: [u32; 4], words: &[u32; SCHEDULE_LEN], at: usize) -> [u32; 4]
+fn round(state: State, words: &[u32; SCHEDULE_LEN], at: usize) -> State
     requires { at ≤ 56 }
     ensures { state_bytes result ≡ round (state_bytes state) (four_words words.now at) }
 {
-    let [a, b, c, d] = state;
-    [
-        column(a, b, c, d, words[at]),
-        column(b, c, d, a, words[at + 1]),
-        column(c, d, a, b, words[at + 2]),
-        column(d, a, b, c, words[at + 3]),
-    ]
+    let State { a, b, c, d } = state;
+    State {
+        a: column(a, b, c, d, words[at]),
+        b: column(b, c, d, a, words[at + 1]),
+        c: column(c, d, a, b, words[at + 2]),
+        d: column(d, a, b, c, words[at + 3]),
+    }
 }
 
 // The last round, with the round key that begins at word `at`.
 #[inline(always)]
-fn final_round(state: [u32; 4], words: &[u32; SCHEDULE_LEN], at: usize) -> [u32; 4]
+fn final_round(state: State, words: &[u32; SCHEDULE_LEN], at: usize) -> State
     requires { at ≤ 56 }
     ensures { state_bytes result ≡ final_round (state_bytes state) (four_words words.now at) }
 {
-    let [a, b, c, d] = state;
-    [
-        final_column(a, b, c, d, words[at]),
-        final_column(b, c, d, a, words[at + 1]),
-        final_column(c, d, a, b, words[at + 2]),
-        final_column(d, a, b, c, words[at + 3]),
-    ]
+    let State { a, b, c, d } = state;
+    State {
+        a: final_column(a, b, c, d, words[at]),
+        b: final_column(b, c, d, a, words[at + 1]),
+        c: final_column(c, d, a, b, words[at + 2]),
+        d: final_column(d, a, b, c, words[at + 3]),
+    }
 }
 
 // The output of the cipher for a block, in so many rounds under this key schedule.
 #[inline(never)]
-pub(crate) fn encrypt(words: &[u32; SCHEDULE_LEN], rounds: usize, block: [u32; 4]) -> [u32; 4]
+pub(crate) fn encrypt(words: &[u32; SCHEDULE_LEN], rounds: usize, block: State) -> State
     requires low { 10 ≤ rounds }
     requires high { rounds ≤ 14 }
     requires even { rounds % 2 ≡ 0 }
     ensures { state_bytes result ≡ cipher_under (schedule_words words.now rounds) (state_bytes block) rounds }
 {
-    let mut state = add_key(block, words, 0);
-    state = round(state, words, 4);
+    let mut state = round(add_key(block, words, 0), words, 4);
     'pairs: for pair in 1..rounds / 2 {
         state = round(state, words, 8 * pair);
         state = round(state, words, 8 * pair + 4);

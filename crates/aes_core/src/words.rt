@@ -12,28 +12,39 @@ pub(crate) fn load_word(bytes: &[u8], at: usize) -> u32
     u32::from_be_bytes([bytes[at], bytes[at + 1], bytes[at + 2], bytes[at + 3]])
 }
 
-// The four words of a block.
-#[inline(always)]
-pub(crate) fn words_of(block: [u8; 16]) -> [u32; 4]
-    ensures { state_bytes result ≡ block }
-{
-    [
-        load_word(&block, 0),
-        load_word(&block, 4),
-        load_word(&block, 8),
-        load_word(&block, 12),
-    ]
+// A state of the cipher: its four columns, with the byte of row 0 highest in each.
+#[derive(Clone, Copy)]
+pub(crate) struct State {
+    pub(crate) a: u32,
+    pub(crate) b: u32,
+    pub(crate) c: u32,
+    pub(crate) d: u32,
 }
 
-// The block of four words.
-#[inline(always)]
-pub(crate) fn bytes_of(state: [u32; 4]) -> [u8; 16]
-    ensures { result ≡ state_bytes state }
-{
-    let mut block = [0u8; 16];
-    block[0..4].copy_from_slice(&state[0].to_be_bytes());
-    block[4..8].copy_from_slice(&state[1].to_be_bytes());
-    block[8..12].copy_from_slice(&state[2].to_be_bytes());
-    block[12..16].copy_from_slice(&state[3].to_be_bytes());
-    block
+impl State {
+    // The state that a block is.
+    #[inline(always)]
+    pub(crate) fn from_block(block: &[u8; 16]) -> State
+        ensures { state_bytes result ≡ block.now }
+    {
+        State {
+            a: load_word(block, 0),
+            b: load_word(block, 4),
+            c: load_word(block, 8),
+            d: load_word(block, 12),
+        }
+    }
+
+    // The block that the state is.
+    #[inline(always)]
+    pub(crate) fn to_block(self) -> [u8; 16]
+        ensures { result ≡ state_bytes self }
+    {
+        let mut block = [0u8; 16];
+        block[0..4].copy_from_slice(&self.a.to_be_bytes());
+        block[4..8].copy_from_slice(&self.b.to_be_bytes());
+        block[8..12].copy_from_slice(&self.c.to_be_bytes());
+        block[12..16].copy_from_slice(&self.d.to_be_bytes());
+        block
+    }
 }
