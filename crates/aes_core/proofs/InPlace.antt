@@ -1,5 +1,5 @@
 -- Sums of lists of bytes, part by part.
-use Rattle.std.proofs.Common.{◌≡◌, ℕ, zero, suc, ◌+◌, ◌-◌, ◌<◌, ◌≤◌, List, [], ◌∷◌, ◌++◌, length, get_or, take, drop, bit_xor, refl, sym, ap, ◌∙◌, arith}
+use Rattle.std.proofs.Common.{◌≡◌, ℕ, zero, suc, ◌+◌, ◌-◌, ◌<◌, ◌≤◌, List, [], ◌∷◌, ◌++◌, length, get_or, set, take, drop, bit_xor, refl, sym, ap, ◌∙◌, arith}
 use Rattle.aes_core.specs.Field.{xor_bytes}
 
 -- a sum is as long as its first list
@@ -17,6 +17,24 @@ pub xor_bytes-take : (xs ys : List ℕ) → xor_bytes xs (take (length xs) ys) �
 xor_bytes-take [] ys = refl
 xor_bytes-take (x ∷ xs) [] = refl
 xor_bytes-take (x ∷ xs) (y ∷ ys) = ap (λ r. bit_xor x y ∷ r) (xor_bytes-take xs ys)
+
+-- only the front of the first list changes
+pub xor_bytes-front : (xs ys : List ℕ) (n : ℕ) → n ≡ length ys → n ≤ length xs
+    → xor_bytes (take n xs) ys ++ drop n xs ≡ xor_bytes xs ys
+xor_bytes-front xs [] zero e h = sym (xor_bytes-nil xs)
+xor_bytes-front xs [] (suc n) e h = absurd (omega arith)
+xor_bytes-front [] (y ∷ ys) zero e h = absurd (omega arith)
+xor_bytes-front (x ∷ xs) (y ∷ ys) zero e h = absurd (omega arith)
+xor_bytes-front [] (y ∷ ys) (suc n) e h = absurd (omega arith)
+xor_bytes-front (x ∷ xs) (y ∷ ys) (suc n) e h =
+    ap (λ r. bit_xor x y ∷ r) (xor_bytes-front xs ys n (omega arith) (omega arith))
+
+-- a write of a sum to one place
+pub set-xor : (xs : List ℕ) (i y : ℕ) → i < length xs
+    → set xs i (bit_xor (get_or xs i 0) y) ≡ take i xs ++ xor_bytes (drop i xs) (y ∷ [])
+set-xor [] i y h = absurd (omega arith)
+set-xor (x ∷ xs) zero y h = ap (λ r. bit_xor x y ∷ r) (sym (xor_bytes-nil xs))
+set-xor (x ∷ xs) (suc i) y h = ap (λ r. x ∷ r) (set-xor xs i y (omega arith))
 
 -- to add two lists, one behind the other, is to add the first, and then the second to what is behind it
 pub xor_bytes-append : (xs ys zs : List ℕ) (n : ℕ) → n ≡ length ys → n ≤ length xs

@@ -1,6 +1,6 @@
 -- The bytes of words: of a sum, of a word made of bytes, of a part of a counter.
-use Rattle.std.proofs.Common.{◌≡◌, ℕ, zero, suc, ◌+◌, ◌*◌, ◌/◌, ◌%◌, ◌^◌, ◌<◌, ◌≤◌, List, [], ◌∷◌, ◌++◌, length, get_or, take, drop, bit_xor, refl, sym, ap, ◌∙◌, arith, w32}
-use Rattle.std.proofs.lemmas.Nat.{xor_shr, xor_mod}
+use Rattle.std.proofs.Common.{◌≡◌, ℕ, zero, suc, ◌+◌, ◌*◌, ◌/◌, ◌%◌, ◌^◌, ◌<◌, ◌≤◌, List, [], ◌∷◌, ◌++◌, length, get_or, take, drop, bit_and, bit_xor, refl, sym, ap, ◌∙◌, arith, w32}
+use Rattle.std.proofs.lemmas.Nat.{and_mask, shr-shr, xor_shr, xor_mod}
 use Rattle.std.proofs.Math.Seq.{drop-cons}
 use Rattle.std.specs.Int.{from_be_bytes, to_be_bytes, w128}
 use Rattle.aes_core.specs.Field.{xor_bytes}
@@ -48,3 +48,32 @@ pub word_bytes_from : (xs : List ℕ) (at n : ℕ) → at + 4 ≤ length xs → 
     → word_bytes n ≡ take 4 (drop at xs)
 word_bytes_from xs at n h fits e =
     word_bytes_of n _ _ _ _ (fits at) (fits (at + 1)) (fits (at + 2)) (fits (at + 3)) e ∙ sym (four_from xs at h)
+
+word_bytes-and : (n : ℕ) → word_bytes (bit_and n 4294967295) ≡ word_bytes n
+word_bytes-and n =
+    let low : bit_and n 4294967295 ≡ n % 4294967296 = and_mask n 32 in
+    let e3 : n % 4294967296 / 16777216 % 256 ≡ n / 16777216 % 256 = omega arith in
+    let e2 : n % 4294967296 / 65536 % 256 ≡ n / 65536 % 256 = omega arith in
+    let e1 : n % 4294967296 / 256 % 256 ≡ n / 256 % 256 = omega arith in
+    let e0 : n % 4294967296 % 256 ≡ n % 256 = omega arith in
+    ap word_bytes low ∙ (λ i. e3 i ∷ e2 i ∷ e1 i ∷ e0 i ∷ [])
+
+-- the byte k bits up in a number that is shifted by s bits
+shifted_byte : (n s k : ℕ) → n / 2 ^ s / 2 ^ k % 256 ≡ n / 2 ^ (s + k) % 256
+shifted_byte n s k = ap (λ m. m % 256) (shr-shr n s k)
+
+-- the bytes of a counter, word by word
+pub counter_bytes : (n : ℕ)
+    → word_bytes (n / 2 ^ 96) ++ word_bytes (bit_and (n / 2 ^ 64) 4294967295)
+    ++ word_bytes (bit_and (n / 2 ^ 32) 4294967295) ++ word_bytes (bit_and n 4294967295) ≡ to_be_bytes w128 n
+counter_bytes n =
+    let a : word_bytes (n / 2 ^ 96) ≡ n / 2 ^ 120 % 256 ∷ n / 2 ^ 112 % 256 ∷ n / 2 ^ 104 % 256 ∷ n / 2 ^ 96 % 256 ∷ [] =
+    λ i. shifted_byte n 96 24 i ∷ shifted_byte n 96 16 i ∷ shifted_byte n 96 8 i ∷ n / 2 ^ 96 % 256 ∷ [] in
+    let b : word_bytes (n / 2 ^ 64) ≡ n / 2 ^ 88 % 256 ∷ n / 2 ^ 80 % 256 ∷ n / 2 ^ 72 % 256 ∷ n / 2 ^ 64 % 256 ∷ [] =
+    λ i. shifted_byte n 64 24 i ∷ shifted_byte n 64 16 i ∷ shifted_byte n 64 8 i ∷ n / 2 ^ 64 % 256 ∷ [] in
+    let c : word_bytes (n / 2 ^ 32) ≡ n / 2 ^ 56 % 256 ∷ n / 2 ^ 48 % 256 ∷ n / 2 ^ 40 % 256 ∷ n / 2 ^ 32 % 256 ∷ [] =
+    λ i. shifted_byte n 32 24 i ∷ shifted_byte n 32 16 i ∷ shifted_byte n 32 8 i ∷ n / 2 ^ 32 % 256 ∷ [] in
+    let b' = word_bytes-and (n / 2 ^ 64) ∙ b in
+    let c' = word_bytes-and (n / 2 ^ 32) ∙ c in
+    let d' = word_bytes-and n in
+    λ i. a i ++ b' i ++ c' i ++ d' i

@@ -73,7 +73,7 @@ impl AesKey {
     {
         let mut counter = u128::from_be_bytes(iv);
         let whole = bytes.len() / 16;
-        'blocks: for i in 0..whole {
+        'turns: for i in 0..whole {
             let stream = encrypt(&self.words, self.rounds, counter_block(counter));
             xor_block(bytes, 16 * i, stream);
             counter = counter.wrapping_add(1);
