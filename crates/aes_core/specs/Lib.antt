@@ -1,0 +1,9 @@
+pub mod Field
+pub mod SBox
+pub mod Cipher
+pub mod KeyExpansion
+pub mod CounterMode
+pub mod Words
+pub mod Schedule
+pub mod Columns
+pub mod SharedRounds
