@@ -115,3 +115,6 @@ pub fn verdict_on<L: Ledger>(
         }
     }
 }
+
+#[cfg(test)]
+mod tests;

@@ -68,3 +68,6 @@ impl<'a> Inner<'a> {
         read_address(self.packet, 16)
     }
 }
+
+#[cfg(test)]
+mod tests;

@@ -1,14 +1,12 @@
 -- Lines that can only be too long.
-use Rattle.std.proofs.Common.{◌≡◌, ℕ, ◌+◌, ◌-◌, ◌≤◌, ◌<◌, ◌==◌, Bool, true, false, List, [], ◌∷◌, ◌++◌, length, append-nil, append_assoc, length-append, length-take, refl, ap, sym, ◌∙◌, arith, inl, inr}
-use Rattle.std.specs.Prelude.{Option, Some, None, Result, Ok, Err, cond, ◌⊎◌, take, slice_index, nat_lt}
+use Rattle.std.proofs.Common.{◌≡◌, ℕ, ◌+◌, ◌-◌, ◌≤◌, ◌<◌, ◌==◌, Bool, true, false, List, [], ◌∷◌, ◌++◌, length, append_assoc, length-append, length-take, refl, ap, sym, ◌∙◌, arith, inl, inr}
+use Rattle.std.specs.Prelude.{Some, Err, cond, ◌⊎◌, take, slice_index, nat_lt}
 use Rattle.std.specs.List.{slice_split}
-use Rattle.std.specs.Str.Lines.{strip_carriage_return}
-use Rattle.schedule_text.specs.declared.kind.TextKind.{TextKind}
 use Rattle.schedule_text.specs.declared.kind.TextKind.TheVariants as kinds
 use Rattle.schedule_text.specs.RouteLine.{route_line, longest_line}
 use Rattle.route_file.specs.Lines.{Line, lines_of, lines_of_parts, content, size}
 use Rattle.route_file.specs.Output.{judged, longest_file}
-use Rattle.route_file.specs.Progress.{Progress, outcome_of, outcome_with, IsOneLine, Ends}
+use Rattle.route_file.specs.Progress.{Progress, outcome_with, IsOneLine, Ends}
 use Rattle.route_file.proofs.Cuts.{split_append, has_part, one_line_append}
 use Rattle.route_file.proofs.Steps.{refused_at, past_limit}
 

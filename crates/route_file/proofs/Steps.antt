@@ -1,12 +1,12 @@
 -- The outcome of a line and of the lines behind it.
-use Rattle.std.proofs.Common.{◌≡◌, ℕ, ◌+◌, ◌≤◌, ◌<◌, List, [], ◌∷◌, ◌++◌, length, append-nil, append_assoc, refl, ap, sym, ◌∙◌, arith}
-use Rattle.std.specs.Prelude.{Option, Some, None, Result, Ok, Err, true, false, Bool, nat_lt, cond}
+use Rattle.std.proofs.Common.{◌≡◌, ℕ, ◌+◌, ◌≤◌, ◌<◌, List, ◌∷◌, ◌++◌, append-nil, append_assoc, refl, arith}
+use Rattle.std.specs.Prelude.{Some, Ok, Err}
 use Rattle.schedule_text.specs.declared.kind.TextKind.{TextKind}
 use Rattle.schedule_text.specs.declared.kind.TextKind.TheVariants as kinds
 use Rattle.schedule_text.specs.declared.route_line.RouteLine.{RouteLine}
 use Rattle.schedule_text.specs.RouteLine.{route_line}
 use Rattle.route_file.specs.Lines.{Line, content, size}
-use Rattle.route_file.specs.Output.{Table, Outcome, outcome_from, outcome_at, printed_before, judged, answer, after, longest_file}
+use Rattle.route_file.specs.Output.{outcome_from, judged, answer, after, longest_file}
 use Rattle.route_file.specs.Progress.{Progress, outcome_of, Ends}
 
 -- a line past the limit of the file is too long

@@ -102,3 +102,6 @@ impl RouteTable {
         self.rows.get(i).copied()
     }
 }
+
+#[cfg(test)]
+mod tests;

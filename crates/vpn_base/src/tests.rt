@@ -1,8 +1,8 @@
 ghost use Rattle.std.specs.Prelude.{◌≡◌, ◌<◌};
 
 use super::*;
-use std::sync::ledger::{Blank, Ledger};
 use std::marker::Brand;
+use std::sync::ledger::{Blank, Ledger};
 use std::test::Fail;
 
 #[test]
@@ -81,7 +81,10 @@ fn prefixes(rt: HostRuntime) -> Result<(), Fail> {
     }
     let all = Prefix::new(Ip4(0), 0).ok_or("a prefix")?;
     assert!(rt; all.contains(Ip4(0xFFFF_FFFF)));
-    assert_eq!(rt; split_once(b"a/b/c", b'/'), Some((b"a".as_slice(), b"b/c".as_slice())));
+    assert_eq!(rt;
+        split_once(b"a/b/c", b'/'),
+        Some((b"a".as_slice(), b"b/c".as_slice()))
+    );
     assert_eq!(rt; split_once(b"abc", b'/'), None);
     Ok(())
 }
@@ -91,14 +94,20 @@ fn owned_values(rt: HostRuntime) -> Result<(), Fail> {
     let alloc = rt.alloc();
     let bytes = Bytes::copy(alloc, b"\x00\xff")?;
     assert_eq!(rt; bytes.as_slice(), b"\x00\xff".as_slice());
-    assert_eq!(rt; Bytes::of(bytes.into_vec()).as_slice(), b"\x00\xff".as_slice());
+    assert_eq!(rt;
+        Bytes::of(bytes.into_vec()).as_slice(),
+        b"\x00\xff".as_slice()
+    );
     let text = Text::copy(alloc, b"alice")?;
     assert_eq!(rt; Text::of(text.into_vec()).as_slice(), b"alice".as_slice());
     let mut texts = TextList::new(alloc);
     texts.add(Text::copy(alloc, b"one")?)?;
     texts.add(Text::copy(alloc, b"two")?)?;
     assert_eq!(rt; texts.count(), 2);
-    assert_eq!(rt; texts.item(1).map(|t| t.as_slice()), Some(b"two".as_slice()));
+    assert_eq!(rt;
+        texts.item(1).map(|t| t.as_slice()),
+        Some(b"two".as_slice())
+    );
     assert!(rt; texts.item(2).is_none());
     let mut routes = RouteList::new(alloc);
     routes.add(Prefix::new(Ip4(0), 8).ok_or("a prefix")?)?;

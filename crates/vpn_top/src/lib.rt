@@ -8,3 +8,6 @@ mod writing;
 
 pub use refusal::Refusal;
 pub use top::{Outside, vpn_main};
+
+#[cfg(test)]
+mod tests;
