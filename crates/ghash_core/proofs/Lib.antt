@@ -1,0 +1,3 @@
+mod Blocks
+mod Linear
+mod Table
