@@ -1,0 +1,7 @@
+pub mod WordBytes
+pub mod TableEntries
+pub mod Columns
+pub mod InPlace
+pub mod RoundSteps
+pub mod Expansion
+pub mod KeyStream

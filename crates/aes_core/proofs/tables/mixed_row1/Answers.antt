@@ -1,0 +1,9 @@
+use Rattle.std.proofs.Common.{ap, get_or, ◌∙◌, ◌+◌, arith}
+use Rattle.aes_core.specs.Words.{word_bytes}
+use Rattle.aes_core.proofs.TableEntries.{mixed_at}
+use Rattle.aes_core.proofs.tables.mixed_row1.Goals as goal
+
+pub returns : goal.returns
+returns c =
+    ap (λ xs. word_bytes (get_or xs (256 + c.args.byte) 0)) c.round_table.ensures
+    ∙ mixed_at (256 + c.args.byte) 1 c.args.byte (omega arith) (omega arith) (omega arith)

@@ -1,0 +1,7 @@
+pub mod Field
+pub mod SBox
+pub mod Cipher
+pub mod KeyExpansion
+pub mod CounterMode
+pub mod Words
+pub mod Schedule
