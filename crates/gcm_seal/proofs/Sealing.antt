@@ -1,7 +1,7 @@
 -- What the steps of sealing make is what GCM is defined to be.
-use Rattle.std.proofs.Common.{◌≡◌, ℕ, ◌+◌, ◌*◌, ◌^◌, ◌<◌, ◌≤◌, List, [], ◌∷◌, ◌++◌, length, get_or, bit_xor, ap, sym, ◌∙◌, refl, arith}
+use Rattle.std.proofs.Common.{◌≡◌, ℕ, ◌<◌, ◌≤◌, List, [], ◌∷◌, ◌++◌, length, get_or, bit_xor, ap, sym, ◌∙◌, arith}
 use Rattle.std.proofs.lemmas.List.Sums.{fold-append, fold_push}
-use Rattle.std.specs.Int.{w32, w128, to_be_bytes}
+use Rattle.std.specs.Int.{w128, to_be_bytes}
 use Rattle.aes_core.specs.CounterMode.{key_stream}
 use Rattle.aes_core.specs.Field.{xor_bytes}
 use Rattle.ghash_core.specs.Field.{product}

@@ -1,6 +1,5 @@
 -- A product as a sum of table entries, four bits of the element at a time.
-use Rattle.std.proofs.Common.{◌≡◌, ℕ, ◌+◌, ◌*◌, ◌/◌, ◌%◌, ◌^◌, ◌<◌, ◌≤◌, List, bit_and, bit_xor, slice_index, ap, sym, ◌∙◌, arith}
-use Rattle.std.proofs.Math.Nat.{one-mul}
+use Rattle.std.proofs.Common.{◌≡◌, ℕ, ◌+◌, ◌*◌, ◌/◌, ◌%◌, ◌^◌, ◌<◌, List, bit_and, bit_xor, slice_index, ap, sym, ◌∙◌, arith}
 use Rattle.std.proofs.lemmas.Nat.{and_mask, mod_below, pow_pos, xor_comm}
 use lib.Bits.{xor_shifted}
 use Rattle.ghash_core.specs.Field.{product}

@@ -1,5 +1,5 @@
 -- GHASH of NIST SP 800-38D, section 6.4. A block is a list of 16 bytes.
-use Rattle.std.specs.Prelude.{◌≡◌, ℕ, zero, suc, ◌+◌, ◌-◌, ◌*◌, ◌/◌, ◌%◌, ◌^◌, ◌<◌, List, [], ◌∷◌, ◌++◌, length, take, drop, replicate, fold, slice_index, bit_xor}
+use Rattle.std.specs.Prelude.{ℕ, zero, suc, ◌-◌, ◌*◌, List, [], ◌∷◌, ◌++◌, length, take, drop, replicate, fold, bit_xor}
 use Rattle.std.specs.Int.{w128, div_ceil, from_be_bytes}
 use Rattle.ghash_core.specs.Field.{product}
 

@@ -1,5 +1,5 @@
-use Rattle.std.proofs.Common.{◌≡◌, ℕ, ◌+◌, ◌-◌, ◌*◌, ◌/◌, ◌%◌, ◌^◌, bit_xor, ap, ◌∙◌, arith}
-use Rattle.ghash_core.specs.Field.{product, times_power}
+use Rattle.std.proofs.Common.{◌≡◌, ℕ, ◌-◌, ◌*◌, ◌/◌, ◌%◌, ◌^◌, bit_xor, ap, ◌∙◌, arith}
+use Rattle.ghash_core.specs.Field.{product}
 use Rattle.ghash_core.proofs.Linear.{product_no_bits, product_bit_one, product_bit_zero}
 use Rattle.ghash_core.proofs.hash_key.multiple.Goals as goal
 use Rattle.ghash_core.proofs.hash_key.multiple.Goals.{then-digit-bit-eq1, else-digit-bit-eq1}

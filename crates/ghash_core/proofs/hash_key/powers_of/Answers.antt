@@ -1,4 +1,4 @@
-use Rattle.std.proofs.Common.{◌≡◌, ◌<◌, ◌≢◌, length, ap, sym, ◌∙◌, refl, arith, get_or-set_other, get_or-set_same, below_more, length-set}
+use Rattle.std.proofs.Common.{◌<◌, ◌≢◌, length, ap, sym, ◌∙◌, refl, arith, get_or-set_other, get_or-set_same, below_more, length-set}
 use Rattle.ghash_core.specs.Field.{times_power, times_x}
 use Rattle.ghash_core.proofs.Linear.{times_power_more}
 use Rattle.ghash_core.proofs.hash_key.powers_of.Goals as goal

@@ -1,8 +1,7 @@
-use Rattle.std.proofs.Common.{rules, ◌≡◌, ℕ, ◌<◌, length, get_or, bit_xor, ap, sym, subst, ◌∙◌}
+use Rattle.std.proofs.Common.{rules, ◌≡◌, ℕ, ◌<◌, length, get_or, ap, ◌∙◌}
 use Rattle.std.specs.Int.{w128, to_be_bytes}
 use Rattle.ghash_core.specs.Ghash.{element}
-use Rattle.ghash_core.specs.Field.{product}
-use Rattle.gcm_seal.specs.Gcm.{hash_of, tag_of}
+use Rattle.gcm_seal.specs.Gcm.{tag_of}
 use Rattle.gcm_seal.proofs.Counters.{numbered}
 use Rattle.gcm_seal.proofs.Sealing.{hash_enciphered, hash_in_parts}
 use Rattle.gcm_seal.proofs.gcm.Gcm.tag.Goals as goal

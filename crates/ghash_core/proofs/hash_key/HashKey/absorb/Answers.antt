@@ -1,6 +1,6 @@
-use Rattle.std.proofs.Common.{◌≡◌, ℕ, ◌*◌, ◌/◌, ◌<◌, List, length, drop, bit_xor, ap, sym, ◌∙◌, refl, arith}
+use Rattle.std.proofs.Common.{◌≡◌, ℕ, ◌/◌, length, bit_xor, ap, sym, ◌∙◌, refl, arith}
 use Rattle.ghash_core.specs.Field.{product}
-use Rattle.ghash_core.specs.Ghash.{element, filled_up, first_blocks, ghash_from}
+use Rattle.ghash_core.specs.Ghash.{element, first_blocks, ghash_from}
 use Rattle.ghash_core.proofs.Blocks.{whole_block_more, last_block_more, no_block_more}
 use Rattle.ghash_core.proofs.hash_key.HashKey.absorb.Goals as goal
 

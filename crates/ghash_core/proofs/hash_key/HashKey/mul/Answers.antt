@@ -1,4 +1,4 @@
-use Rattle.std.proofs.Common.{ℕ, ◌/◌, ◌%◌, ◌*◌, ◌^◌, bit_and, bit_xor, ap, sym, ◌∙◌}
+use Rattle.std.proofs.Common.{ℕ, ◌%◌, ◌*◌, ◌^◌, bit_xor, ap, ◌∙◌}
 use Rattle.std.proofs.lemmas.Nat.{and_mask}
 use Rattle.ghash_core.specs.Field.{product}
 use Rattle.ghash_core.proofs.Table.{product_halves}
