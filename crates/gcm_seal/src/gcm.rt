@@ -200,7 +200,9 @@ impl Aead for Gcm256 {
 /// GCM under a key of either length, as negotiation finds it.
 #[derive(Drop)]
 pub enum AnyGcm {
+    /// Under a key of 128 bits.
     Short(Gcm128),
+    /// Under a key of 256 bits.
     Long(Gcm256),
 }
 
