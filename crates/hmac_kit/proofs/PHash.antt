@@ -1,5 +1,5 @@
 -- P_hash, block by block.
-use Rattle.std.proofs.Common.{◌≡◌, ℕ, zero, suc, ◌+◌, ◌-◌, ◌*◌, ◌/◌, ◌%◌, ◌≤◌, ◌<◌, min, List, [], ◌∷◌, ◌++◌, length, take, drop, take_all, refl, ap, sym, ◌∙◌, append_assoc, add-zero, add-suc, add-one, inl, inr, arith}
+use Rattle.std.proofs.Common.{◌≡◌, ℕ, zero, suc, ◌+◌, ◌-◌, ◌*◌, ◌/◌, ◌%◌, ◌≤◌, ◌<◌, min, List, [], ◌++◌, length, take, drop, take_all, refl, ap, sym, ◌∙◌, append_assoc, add-zero, add-suc, add-one, inl, inr, arith}
 use Rattle.std.proofs.Math.ListN.{replicate}
 use Rattle.std.proofs.Math.Nat.{mul-le-mul_left, mul-le-mul_right}
 use Rattle.std.proofs.lemmas.Bool.{cases_lt}
@@ -37,7 +37,7 @@ xor_enough mac seed xs n few enough =
     let whole : n + (length xs - n) ≡ length xs = omega arith in
     let all : blocks mac seed (length xs) ≡ blocks mac seed n ++ more.0 = ap (blocks mac seed) (sym whole) ∙ more.1 in
     let front : take (length xs) (blocks mac seed (length xs)) ≡ take (length xs) (blocks mac seed n) =
-        ap (take (length xs)) all ∙ take-append-le (length xs) (blocks mac seed n) more.0 enough in
+    ap (take (length xs)) all ∙ take-append-le (length xs) (blocks mac seed n) more.0 enough in
     sym (ap (xor_bytes xs) front ∙ xor_bytes-take xs (blocks mac seed n) (length xs) (omega arith))
 
 pub blocks-next : (mac : List ℕ → List ℕ) (seed : List ℕ) (i : ℕ) → blocks mac seed (i + 1) ≡ blocks mac seed i ++ mac (chained mac seed (i + 1) ++ seed)
@@ -73,12 +73,14 @@ chained-next mac seed front last i next made = made ∙ ap mac (append-nil front
 pub div_ceil-enough : (len n count : ℕ) → 0 < n → count ≡ div_ceil len n → (count ≤ len) × (len ≤ count * n)
 div_ceil-enough len n count some is =
     let bounds = div_ceil_times len n some in
-    let times : count * n ≡ (len / n + min 1 (len % n)) * n = ap (λ (k : ℕ). k * n) is in
-    (elim (cases_lt len count) [
-      | inl more ↦ let past : (len + 1) * n ≤ count * n = mul-le-mul_right n (omega arith) in
-        let own : len * 1 ≤ len * n = mul-le-mul_left len (omega arith) in absurd (omega arith)
-      | inr few ↦ few
-    ], omega arith)
+    let times : count * n ≡ (len / n + min 1 (len % n)) * n = ap (λ (k : ℕ). k * n) is in (
+      elim (cases_lt len count) [
+        | inl more ↦ let past : (len + 1) * n ≤ count * n = mul-le-mul_right n (omega arith) in
+            let own : len * 1 ≤ len * n = mul-le-mul_left len (omega arith) in absurd (omega arith)
+        | inr few ↦ few
+      ],
+      omega arith,
+    )
 
 -- zeros xored with the two streams one after the other are the streams xored with each other
 pub two_streams : (a b zeros one two : List ℕ) → zeros ≡ replicate (length zeros) 0 → length zeros ≡ length a → one ≡ xor_bytes zeros a → two ≡ xor_bytes one b → two ≡ xor_bytes a b

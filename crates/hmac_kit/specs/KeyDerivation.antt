@@ -1,4 +1,4 @@
--- The keys of an OpenVPN session under key method 2 (OpenVPN wire protocol, "Data channel key derivation").
+-- The keys of a session under key method 2 of the OpenVPN protocol, by the PRF of TLS 1.0.
 use Rattle.std.specs.Prelude.{ℕ, List, ◌++◌, codes}
 use Rattle.hmac_kit.specs.Prf.{prf_bytes}
 

@@ -15,7 +15,11 @@ pub fn master(pre: &[u8; 48], client1: &[u8; 32], server1: &[u8; 32]) -> [u8; 48
     ensures { result ≡ master_secret pre.now client1.now server1.now }
 {
     let mut secret = [0; 48];
-    prf_of_pieces(pre, &[b"OpenVPN master secret", client1, server1], &mut secret);
+    prf_of_pieces(
+        pre,
+        &[b"OpenVPN master secret", client1, server1],
+        &mut secret,
+    );
     secret
 }
 
@@ -32,7 +36,13 @@ pub fn expand(
     let mut block = [0; 256];
     prf_of_pieces(
         master,
-        &[b"OpenVPN key expansion", client2, server2, &client_sid, &server_sid],
+        &[
+            b"OpenVPN key expansion",
+            client2,
+            server2,
+            &client_sid,
+            &server_sid,
+        ],
         &mut block,
     );
     KeyBlock(block)

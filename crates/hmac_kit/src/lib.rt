@@ -10,3 +10,5 @@ pub use derivation::{KeyBlock, expand, master};
 pub use hmac::{HmacSha256, hmac_md5, hmac_sha1, hmac_sha256};
 pub use pseudorandom::prf;
 
+#[cfg(test)]
+mod tests;

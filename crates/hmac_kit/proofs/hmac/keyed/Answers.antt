@@ -1,4 +1,4 @@
-use Rattle.std.proofs.Common.{◌≡◌, [], ap, ◌∙◌}
+use Rattle.std.proofs.Common.{◌≡◌, []}
 use Rattle.std.proofs.lemmas.List.{append-nil}
 use Rattle.hmac_kit.specs.Hmac.{masked_key}
 use Rattle.hmac_kit.proofs.hmac.keyed.Goals as goal

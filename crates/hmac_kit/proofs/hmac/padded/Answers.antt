@@ -1,5 +1,4 @@
-use Rattle.std.proofs.Common.{◌≡◌, ℕ, ◌++◌, length, drop, refl}
-use Rattle.std.proofs.Math.ListN.{replicate}
+use Rattle.std.proofs.Common.{ℕ, length, refl}
 use Rattle.std.proofs.lemmas.List.{drop-replicate}
 use Rattle.hmac_kit.proofs.hmac.padded.Goals as goal
 

@@ -1,4 +1,3 @@
-use Rattle.std.proofs.Common.{subst, ◌∙◌, ap, arith, rules}
 use Rattle.hmac_kit.specs.Hmac.{hmac}
 use Rattle.hmac_kit.proofs.hmac.tag.Goals as goal
 

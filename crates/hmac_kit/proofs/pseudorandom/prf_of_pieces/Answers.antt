@@ -16,7 +16,7 @@ returns c =
     let half : c.div_ceil-half.result ≡ (length secret + 1) / 2 = half_is (length secret) c.div_ceil-half.result c.div_ceil-half.ensures in
     let blank : c.fill.new.self ≡ replicate n 0 = c.fill.ensures.after (λ y e. e) in
     let cut : take (length secret - (length secret - c.div_ceil-half.result)) (drop (length secret - c.div_ceil-half.result) secret) ≡ second_half secret =
-        take_all _ _ (omega (arith, length-drop (length secret - c.div_ceil-half.result) secret)) ∙ ap (λ (h : ℕ). drop (length secret - h) secret) half in
+    take_all _ _ (omega (arith, length-drop (length secret - c.div_ceil-half.result) secret)) ∙ ap (λ (h : ℕ). drop (length secret - h) secret) half in
     let front : take c.div_ceil-half.result secret ≡ first_half secret = ap (λ (h : ℕ). take h secret) half in
     let zeroed : length c.fill.new.self ≡ n = c.fill.ensures.len in
     let a : List ℕ = p_hash (hmac_md5 (first_half secret)) seed n in

@@ -1,5 +1,4 @@
-use Rattle.std.proofs.Common.{◌≡◌, ◌∙◌, ap, sym, arith, add-one, take, length, ◌<◌, ◌≤◌, min}
-use Rattle.hmac_kit.specs.Prf.{xor_bytes}
+use Rattle.std.proofs.Common.{◌∙◌, sym, arith, add-one}
 use Rattle.hmac_kit.proofs.Xor.{xor_bytes-nil, xor_bytes-more, xor_up_to}
 use Rattle.hmac_kit.proofs.pseudorandom.xor_onto.Goals as goal
 

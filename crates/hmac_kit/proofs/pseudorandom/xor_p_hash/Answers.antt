@@ -1,4 +1,4 @@
-use Rattle.std.proofs.Common.{◌≡◌, [], ◌++◌, ◌∙◌, ap, sym, refl, arith, map, length, ◌≤◌}
+use Rattle.std.proofs.Common.{◌≡◌, ◌∙◌, sym, arith, map, length, ◌≤◌}
 use Rattle.std.specs.List.{concat}
 use Rattle.hmac_kit.specs.Hmac.{hmac}
 use Rattle.hmac_kit.specs.Prf.{chained, blocks}

@@ -1,4 +1,3 @@
-use Rattle.std.proofs.Common.{rules}
 use Rattle.hmac_kit.specs.Hashers.{Holds}
 use Rattle.hmac_kit.proofs.hmac.HmacSha256.finish.Goals as goal
 
