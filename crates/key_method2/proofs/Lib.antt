@@ -1,1 +1,5 @@
 pub mod Opening
+pub mod Names
+pub mod Bytes
+pub mod Text
+pub mod Texts

@@ -1,5 +1,5 @@
 -- Reading a key exchange message from its front: the parts, too few bytes, or the place of the first wrong one.
-use Rattle.std.specs.Prelude.{◌≡◌, ℕ, ◌+◌, ◌-◌, ◌≤◌, nat_lt, ◌==◌, List, [], ◌∷◌, length, take, drop, slice_index, Option, Some, None, Result, Ok, Err, if◌then◌else◌}
+use Rattle.std.specs.Prelude.{◌≡◌, ℕ, zero, suc, ◌+◌, ◌-◌, ◌≤◌, nat_lt, ◌==◌, List, [], ◌∷◌, length, take, drop, slice_index, slice_index_or, Option, Some, None, Result, Ok, Err, if◌then◌else◌}
 use Rattle.std.specs.Int.{w16, from_be_bytes}
 use Rattle.vpn_base.specs.declared.names.Role.{Role}
 use Rattle.vpn_base.specs.declared.names.Role.TheVariants.{Server, Client}
@@ -93,16 +93,32 @@ text_from at bytes = counted_from at (text_at (drop at bytes))
 unfoldable pub text_if_any : ℕ → List ℕ → Result (List ℕ × ℕ) Stop
 text_if_any at bytes = if at == length bytes then Ok ([], at) else text_from at bytes
 
+-- so many texts from a place on, and where they end; the message may end before each
+unfoldable pub texts_if_any : ℕ → ℕ → List ℕ → Result (List (List ℕ) × ℕ) Stop
+texts_if_any zero at bytes = Ok ([], at)
+texts_if_any (suc n) at bytes = do
+  text ← text_if_any at bytes
+  others ← texts_if_any n text.1 bytes
+  Ok (text.0 ∷ others.0, others.1)
+
+-- the message of a source and four texts
+abbrev pub message_of : Source → List (List ℕ) → Km2
+message_of source texts = record {
+  source = source;
+  options = slice_index_or texts 0 [];
+  user = slice_index_or texts 1 [];
+  pass = slice_index_or texts 2 [];
+  info = slice_index_or texts 3 []
+}
+
 -- the message at the front, and where it ends
 unfoldable pub parts_at : Role → List ℕ → Result (Km2 × ℕ) Stop
 parts_at from bytes = do
   front ← opened (first_difference opening bytes)
   source ← source_at from bytes
   options ← text_from source.1 bytes
-  user ← text_if_any options.1 bytes
-  pass ← text_if_any user.1 bytes
-  info ← text_if_any pass.1 bytes
-  Ok (record { source = source.0; options = options.0; user = user.0; pass = pass.0; info = info.0 }, info.1)
+  others ← texts_if_any 3 options.1 bytes
+  Ok (message_of source.0 (options.0 ∷ others.0), others.1)
 
 -- what reading answers
 abbrev pub answer_to : Result (Km2 × ℕ) Stop → Km2Read

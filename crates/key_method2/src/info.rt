@@ -66,8 +66,11 @@ fn is_one_of(names: &[u8], name: &[u8]) -> bool
 pub fn choose_cipher(ours: &[Cipher], info: &[u8]) -> Option<Cipher>
     ensures { result ≡ find (offers info.now) ours.now }
 {
-    let names = info_value(info, b"IV_CIPHERS")?;
-    ours.iter()
-        .copied()
-        .find(|cipher| is_one_of(names, cipher_name(*cipher)))
+    match info_value(info, b"IV_CIPHERS") {
+        None => None,
+        Some(names) => ours
+            .iter()
+            .copied()
+            .find(|cipher| is_one_of(names, cipher_name(*cipher))),
+    }
 }

@@ -133,7 +133,7 @@ fn next_text(bytes: &[u8], at: usize) -> Result<(&[u8], usize), Stop>
 }
 
 // The message at the front, and where it ends.
-#[tactic(auto, unfolding(crate::specs::Reading::parts_at))]
+#[tactic(auto, unfolding(crate::specs::Reading::parts_at, crate::specs::Reading::texts_if_any))]
 fn parts_of(bytes: &[u8], from: Role) -> Result<(Parts<'_>, usize), Stop>
     ensures gives { Gives (λ x. (view x.0, x.1)) result (parts_at from bytes.now) }
     ensures short { EndsBy 262265 result }
