@@ -3,3 +3,5 @@ pub mod Names
 pub mod Bytes
 pub mod Text
 pub mod Texts
+pub mod Parts
+pub mod Laws

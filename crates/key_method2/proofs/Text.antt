@@ -183,3 +183,21 @@ unfolding text_at
 text_wrong [] place fits is = absurd cc
 text_wrong (high ∷ []) place fits is = absurd cc
 text_wrong (high ∷ low ∷ bytes) place fits is = wrong_of_size high low bytes place (fits 0) (fits 1) (sym (text_at-pair high low bytes) ∙ is) (sized (size_of high low) bytes)
+
+within_of_size : (size : ℕ) (bytes text : List ℕ) (n : ℕ) → text_of_size size bytes ≡ Ok (text, n) → Sized size bytes → n ≤ length bytes + 2
+within_of_size size bytes text n is (none no_size) =
+    let e : done ([], 2) ≡ done (text, n) = ap (λ (k : ℕ). text_of_size k bytes) (sym no_size) ∙ is in
+    let two : 2 ≡ n = ap (λ (x : List ℕ × ℕ). x.1) (ok_is ([], 2) (text, n) e) in omega arith
+within_of_size size bytes text n is (cut some short) = let e = sized_cut size bytes some short in absurd cc
+within_of_size size bytes text n is (ended some enough zero_there) =
+    let e = sym (sized_ended size bytes some enough zero_there) ∙ is in
+    let more : size + 2 ≡ n = ap (λ (x : List ℕ × ℕ). x.1) (ok_is (take (size - 1) bytes, size + 2) (text, n) e) in omega arith
+within_of_size size bytes text n is (wrong some enough other) = let e = sized_wrong size bytes some enough other in absurd cc
+
+-- a text ends within the bytes
+pub text_within : (bytes text : List ℕ) (n : ℕ) → text_at bytes ≡ Ok (text, n) → n ≤ length bytes
+unfolding text_at
+text_within [] text n is = absurd cc
+text_within (high ∷ []) text n is = absurd cc
+text_within (high ∷ low ∷ bytes) text n is =
+    let two : n ≤ length bytes + 2 = within_of_size (size_of high low) bytes text n (sym (text_at-pair high low bytes) ∙ is) (sized (size_of high low) bytes) in omega arith

@@ -10,7 +10,7 @@ use Rattle.key_method2.specs.declared.stop.Stop.TheVariants.{Cut, Wrong}
 use Rattle.key_method2.specs.Message.{IsField, AreFields}
 use Rattle.key_method2.specs.Reading.{◌>>=◌, text_at, counted_from, text_from, text_if_any, texts_if_any}
 use Rattle.key_method2.proofs.Bytes.{IsBytes, IsBytes-drop}
-use Rattle.key_method2.proofs.Text.{ok_is, Taken, BeginsField, Wrongly, text_again, text_taken, text_cut, text_wrong}
+use Rattle.key_method2.proofs.Text.{ok_is, Taken, BeginsField, Wrongly, text_again, text_taken, text_within, text_cut, text_wrong}
 
 -- ---- the texts of the bytes that are left, counted from their front
 
@@ -29,7 +29,7 @@ unfoldable pub texts_in : ℕ → List ℕ → Result (List (List ℕ) × ℕ) S
 texts_in zero bytes = Ok ([], 0)
 texts_in (suc n) bytes = if_any bytes >>= λ x. pushed x.0 x.1 (texts_in n (drop x.1 bytes))
 
-drop-add : (n m : ℕ) (bytes : List ℕ) → drop (n + m) bytes ≡ drop m (drop n bytes)
+pub drop-add : (n m : ℕ) (bytes : List ℕ) → drop (n + m) bytes ≡ drop m (drop n bytes)
 drop-add zero m bytes = rw zero-add refl
 drop-add (suc n) m [] = drop-nil (suc n + m) ∙ sym (drop-nil m)
 drop-add (suc n) m (byte ∷ bytes) = let e : suc n + m ≡ suc (n + m) = omega arith in rw e (drop-add n m bytes)
@@ -37,15 +37,15 @@ drop-add (suc n) m (byte ∷ bytes) = let e : suc n + m ≡ suc (n + m) = omega 
 abbrev got : {A : Type 0} → A → Result A Stop
 got x = Ok x
 
-if_any-some : (bytes : List ℕ) → 0 < length bytes → if_any bytes ≡ text_at bytes
+pub if_any-some : (bytes : List ℕ) → 0 < length bytes → if_any bytes ≡ text_at bytes
 unfolding if_any
 if_any-some [] some = absurd (omega arith)
 if_any-some (byte ∷ bytes) some = refl
 
-if_any_within : (bytes text : List ℕ) (k : ℕ) → IsBytes bytes → if_any bytes ≡ Ok (text, k) → k ≤ length bytes
+if_any_within : (bytes text : List ℕ) (k : ℕ) → if_any bytes ≡ Ok (text, k) → k ≤ length bytes
 unfolding if_any
-if_any_within [] text k fits is = let e = ok_is ([], 0) (text, k) is in let zero_is : 0 ≡ k = ap (λ (x : List ℕ × ℕ). x.1) e in omega arith
-if_any_within (byte ∷ bytes) text k fits is = (text_taken (byte ∷ bytes) text k fits is).within
+if_any_within [] text k is = let e = ok_is ([], 0) (text, k) is in let zero_is : 0 ≡ k = ap (λ (x : List ℕ × ℕ). x.1) e in omega arith
+if_any_within (byte ∷ bytes) text k is = text_within (byte ∷ bytes) text k is
 
 text_if_any-counted : (at : ℕ) (bytes : List ℕ) → at ≤ length bytes → text_if_any at bytes ≡ counted_from at (if_any (drop at bytes))
 unfolding text_if_any text_from if_any
@@ -62,14 +62,14 @@ pushed-counted text at k (Err Cut) = refl
 pushed-counted text at k (Err (Wrong place)) = ap (λ (n : ℕ). Err (Wrong n)) (add_assoc at k place)
 
 -- the texts from a place on are those of the bytes that are left
-pub texts_if_any-counted : (n at : ℕ) (bytes : List ℕ) → IsBytes bytes → at ≤ length bytes → texts_if_any n at bytes ≡ counted_from at (texts_in n (drop at bytes))
+pub texts_if_any-counted : (n at : ℕ) (bytes : List ℕ) → at ≤ length bytes → texts_if_any n at bytes ≡ counted_from at (texts_in n (drop at bytes))
 unfolding texts_if_any texts_in
-texts_if_any-counted zero at bytes fits inside = ap (λ (k : ℕ). got ([], k)) (sym (add-zero at))
-texts_if_any-counted (suc n) at bytes fits inside = go (λ from inside. texts_if_any-counted n from bytes fits inside) (if_any (drop at bytes)) refl where
+texts_if_any-counted zero at bytes inside = ap (λ (k : ℕ). got ([], k)) (sym (add-zero at))
+texts_if_any-counted (suc n) at bytes inside = go (λ from inside. texts_if_any-counted n from bytes inside) (if_any (drop at bytes)) refl where
   go : ((from : ℕ) → from ≤ length bytes → texts_if_any n from bytes ≡ counted_from from (texts_in n (drop from bytes))) → (r : Result (List ℕ × ℕ) Stop) → if_any (drop at bytes) ≡ r → (text_if_any at bytes >>= λ x. texts_if_any n x.1 bytes >>= λ others. Ok (x.0 ∷ others.0, others.1)) ≡ counted_from at (if_any (drop at bytes) >>= λ x. pushed x.0 x.1 (texts_in n (drop x.1 (drop at bytes))))
   go later (Ok x) is =
       let first : text_if_any at bytes ≡ got (x.0, at + x.1) = text_if_any-counted at bytes inside ∙ ap (counted_from at) is in
-      let within : x.1 ≤ length (drop at bytes) = if_any_within (drop at bytes) x.0 x.1 (IsBytes-drop at bytes fits) is in
+      let within : x.1 ≤ length (drop at bytes) = if_any_within (drop at bytes) x.0 x.1 is in
       let others = later (at + x.1) (omega (arith, length-drop at bytes)) in
       let left : drop (at + x.1) bytes ≡ drop x.1 (drop at bytes) = drop-add at x.1 bytes in
       rw (first, others, left, is) (pushed-counted x.0 at x.1 (texts_in n (drop x.1 (drop at bytes))))
@@ -187,7 +187,7 @@ pub record BeginFields (n : ℕ) (bytes : List ℕ) : Type 0 where
   pub fields : AreFields (bytes ++ more) texts
 
 -- what begins one field begins fields
-begins_first : (n : ℕ) (bytes : List ℕ) → BeginsField bytes → BeginFields (suc n) bytes
+pub begins_first : (n : ℕ) (bytes : List ℕ) → BeginsField bytes → BeginFields (suc n) bytes
 begins_first n bytes one = record {
   more = one.0 ++ empty_fields n;
   texts = one.1 ∷ replicate n [];
