@@ -5,3 +5,4 @@ pub mod Text
 pub mod Texts
 pub mod Parts
 pub mod Laws
+pub mod Judged
