@@ -6,3 +6,4 @@ pub mod Texts
 pub mod Parts
 pub mod Laws
 pub mod Judged
+pub mod Written
