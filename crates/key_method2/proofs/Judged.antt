@@ -43,9 +43,10 @@ none_begins from bytes place wrong begins =
     absurd cc
 
 none_found : (from : Role) (bytes : List ℕ) (stop : Stop) → parts_at from bytes ≡ Err stop → NoneInFront from bytes × ((message : Km2) → ¬ EndsEarly from bytes message)
-none_found from bytes stop is =
-    ((λ front rest message whole has. let read = all_read from bytes front rest message whole has in absurd cc),
-    (λ message has. let read = early_read from bytes message has in absurd cc))
+none_found from bytes stop is = (
+  (λ front rest message whole has. let read = all_read from bytes front rest message whole has in absurd cc),
+  (λ message has. let read = early_read from bytes message has in absurd cc),
+)
 
 -- ---- what no front has and no message is
 
@@ -107,6 +108,7 @@ is_more from bytes (Ok read) fits is = ((λ more. there (parts_at from bytes) re
   there (Ok x) e answer = absurd cc
   there (Err Cut) e answer = record { begins = parts_cut from bytes fits e; none_early = (none_found from bytes Cut e).1; none_in_front = (none_found from bytes Cut e).0 }
   there (Err (Wrong place)) e answer = absurd cc
+
   back : IsCut from bytes → (r : Parts) → parts_at from bytes ≡ r → answer_to r ≡ More
   back cut (Ok x) e = absurd (cut.none_early x.0 (not_found from bytes x.0 x.1 (parts_taken from bytes x.0 x.1 fits e) cut.none_in_front))
   back cut (Err Cut) e = refl
@@ -126,6 +128,7 @@ is_bad from bytes (Ok read) fits is = λ place kind. ((λ bad. there place kind 
       let is_kind : kind_at here ≡ kind = cc in
       subst (λ (p : ℕ). IsWrongAt from bytes p kind) same
       (record { before = wrong.before; at_place = none_begins from bytes here wrong; none_in_front = (none_found from bytes (Wrong here) e).0; is_kind = sym is_kind })
+
   back : (place : ℕ) (kind : Km2Bad) → IsWrongAt from bytes place kind → (r : Parts) → parts_at from bytes ≡ r → answer_to r ≡ Bad place kind
   back place kind wrong (Ok x) e =
       let early = not_found from bytes x.0 x.1 (parts_taken from bytes x.0 x.1 fits e) wrong.none_in_front in

@@ -39,14 +39,14 @@ message_again from present front rest message is some few ends =
     let fields : List ℕ = is.fields in
     let spelled = source_again from message.source is.source in
     let whole : front ++ rest ≡ opening ++ (source ++ (fields ++ rest)) =
-      ap (λ (b : List ℕ). b ++ rest) is.whole ∙ append_assoc (opening ++ source) fields rest ∙ append_assoc opening source (fields ++ rest) in
+    ap (λ (b : List ℕ). b ++ rest) is.whole ∙ append_assoc (opening ++ source) fields rest ∙ append_assoc opening source (fields ++ rest) in
     let texts : List (List ℕ) = take present (texts_of message) in
     let count : length texts ≡ present = length-take-le present (texts_of message) few in
     let read = texts_again 4 fields texts rest is.are_fields (omega arith) (λ fewer. ends (omega arith)) in
     let all : texts ++ replicate (4 - length texts) [] ≡ texts_of message =
-      ap (λ (k : ℕ). texts ++ replicate (4 - k) []) count ∙ ap (λ (others : List (List ℕ)). texts ++ others) (sym is.left_out) ∙ take-append-drop present (texts_of message) in
+    ap (λ (k : ℕ). texts ++ replicate (4 - k) []) count ∙ ap (λ (others : List (List ℕ)). texts ++ others) (sym is.left_out) ∙ take-append-drop present (texts_of message) in
     let four : four_in (fields ++ rest) ≡ got (texts_of message, length fields) =
-      four_in-some (fields ++ rest) (omega (arith, some_field present fields message some is.are_fields, length-append fields rest)) ∙ read ∙ ap (λ (ts : List (List ℕ)). got (ts, length fields)) all in
+    four_in-some (fields ++ rest) (omega (arith, some_field present fields message some is.are_fields, length-append fields rest)) ∙ read ∙ ap (λ (ts : List (List ℕ)). got (ts, length fields)) all in
     let long : 5 + source_length from + length fields ≡ length front = omega (arith, ap length is.whole, length-append source fields, spelled.0) in
     ap (parts_at from) whole ∙ parts_at-split from source (fields ++ rest) spelled.0
     ∙ ap (λ (r : Result (List (List ℕ) × ℕ) Stop). messaged (source_in from source) (counted_from (5 + source_length from) r)) four
@@ -57,8 +57,11 @@ message_again from present front rest message is some few ends =
 
 -- what some message begins with, it begins with any part of at the front
 pub Begins-front : (from : Role) (front rest : List ℕ) → Begins from (front ++ rest) → Begins from front
-Begins-front from front rest begins = (rest ++ begins.0, begins.1,
-    subst (λ (bytes : List ℕ). HasAllTexts from bytes begins.1 ⊎ EndsEarly from bytes begins.1) (append_assoc front rest begins.0) begins.2)
+Begins-front from front rest begins = (
+  rest ++ begins.0,
+  begins.1,
+  subst (λ (bytes : List ℕ). HasAllTexts from bytes begins.1 ⊎ EndsEarly from bytes begins.1) (append_assoc front rest begins.0) begins.2,
+)
 
 four_texts : (source : Source) (texts : List (List ℕ)) → length texts ≡ 4 → texts_of (message_of source texts) ≡ texts
 four_texts source [] count = absurd (omega arith)
@@ -121,11 +124,11 @@ shape from bytes = go (first_difference opening bytes) refl where
       elim (cases_lt (length bytes) (5 + source_length from)) [
         | inl fewer ↦ short is fewer
         | inr enough ↦
-          let none : drop (length bytes) opening ≡ [] = drop_all (length bytes) opening (omega arith) in
-          let front : bytes ≡ opening ++ drop 5 bytes = sym (append-nil bytes) ∙ ap (λ (b : List ℕ). bytes ++ b) (sym none) ∙ front_is opening bytes is in
-          let behind : take (source_length from) (drop 5 bytes) ++ drop (source_length from) (drop 5 bytes) ≡ drop 5 bytes = take-append-drop (source_length from) (drop 5 bytes) in
-          split (take (source_length from) (drop 5 bytes)) (drop (source_length from) (drop 5 bytes))
-          (length-take-le (source_length from) (drop 5 bytes) (omega (arith, length-drop 5 bytes))) (front ∙ ap (λ (b : List ℕ). opening ++ b) (sym behind))
+            let none : drop (length bytes) opening ≡ [] = drop_all (length bytes) opening (omega arith) in
+            let front : bytes ≡ opening ++ drop 5 bytes = sym (append-nil bytes) ∙ ap (λ (b : List ℕ). bytes ++ b) (sym none) ∙ front_is opening bytes is in
+            let behind : take (source_length from) (drop 5 bytes) ++ drop (source_length from) (drop 5 bytes) ≡ drop 5 bytes = take-append-drop (source_length from) (drop 5 bytes) in
+            split (take (source_length from) (drop 5 bytes)) (drop (source_length from) (drop 5 bytes))
+            (length-take-le (source_length from) (drop 5 bytes) (omega (arith, length-drop 5 bytes))) (front ∙ ap (λ (b : List ℕ). opening ++ b) (sym behind))
       ]
 
 parts_differ : (from : Role) (bytes : List ℕ) (place : ℕ) → first_difference opening bytes ≡ Some place → parts_at from bytes ≡ Err (Wrong place)
@@ -179,23 +182,23 @@ found_split from source rest x long some taken =
     let regrouped : bytes ≡ (opening ++ source) ++ rest = sym (append_assoc opening source rest) in
     let front_long : length (opening ++ source) ≡ 5 + source_length from = omega arith in
     let front : take used bytes ≡ opening ++ (source ++ take x.1 rest) =
-      ap (take used) regrouped ∙ ap (λ (k : ℕ). take (k + x.1) ((opening ++ source) ++ rest)) (sym front_long) ∙ take-append-add (opening ++ source) rest x.1 ∙ append_assoc opening source (take x.1 rest) in
+    ap (take used) regrouped ∙ ap (λ (k : ℕ). take (k + x.1) ((opening ++ source) ++ rest)) (sym front_long) ∙ take-append-add (opening ++ source) rest x.1 ∙ append_assoc opening source (take x.1 rest) in
     let is = made from taken.present source (take x.1 rest) x.0 long taken.count taken.fields taken.left_out in
     let read : IsMessage from taken.present (take used bytes) message = subst (λ (b : List ℕ). IsMessage from taken.present b message) (sym front) is in
     record {
       within = omega arith;
       is_message = elim (cases_lt taken.present 4) [
         | inl fewer ↦
-          let all : x.1 ≡ length rest = taken.ends fewer in
-          let whole : used ≡ length bytes = omega arith in
-          let same : take used bytes ≡ bytes = take_all used bytes (omega arith) in
-          inr (whole, (taken.present, present_some taken.present rest x.0 x.1 some all taken.fields, fewer, subst (λ (b : List ℕ). IsMessage from taken.present b message) same read))
+            let all : x.1 ≡ length rest = taken.ends fewer in
+            let whole : used ≡ length bytes = omega arith in
+            let same : take used bytes ≡ bytes = take_all used bytes (omega arith) in
+            inr (whole, (taken.present, present_some taken.present rest x.0 x.1 some all taken.fields, fewer, subst (λ (b : List ℕ). IsMessage from taken.present b message) same read))
         | inr enough ↦ let four : taken.present ≡ 4 = omega (arith, taken.few) in inl (subst (λ (n : ℕ). IsMessage from n (take used bytes) message) four read)
       ];
     } where
-  present_some : (present : ℕ) (rest : List ℕ) (texts : List (List ℕ)) (end : ℕ) → 0 < length rest → end ≡ length rest → AreFields (take end rest) (take present texts) → 0 < present
-  present_some zero rest texts end some all are = absurd (omega (arith, ap length are, length-take-le end rest (omega arith)))
-  present_some (suc present) rest texts end some all are = omega arith
+      present_some : (present : ℕ) (rest : List ℕ) (texts : List (List ℕ)) (end : ℕ) → 0 < length rest → end ≡ length rest → AreFields (take end rest) (take present texts) → 0 < present
+      present_some zero rest texts end some all are = absurd (omega (arith, ap length are, length-take-le end rest (omega arith)))
+      present_some (suc present) rest texts end some all are = omega arith
 
 pub parts_taken : (from : Role) (bytes : List ℕ) (message : Km2) (used : ℕ) → IsBytes bytes → parts_at from bytes ≡ Ok (message, used) → IsFound from bytes message used
 parts_taken from bytes message used fits is = go (shape from bytes) where
@@ -262,18 +265,18 @@ wrong_split from source rest place long wrong =
     let regrouped : bytes ≡ (opening ++ source) ++ rest = sym (append_assoc opening source rest) in
     let front_long : length (opening ++ source) ≡ at = omega arith in
     let front = λ (n : ℕ).
-      let cut : take (at + n) bytes ≡ opening ++ (source ++ take n rest) =
-        ap (take (at + n)) regrouped ∙ ap (λ (k : ℕ). take (k + n) ((opening ++ source) ++ rest)) (sym front_long) ∙ take-append-add (opening ++ source) rest n ∙ append_assoc opening source (take n rest) in
-      cut in
+    let cut : take (at + n) bytes ≡ opening ++ (source ++ take n rest) =
+    ap (take (at + n)) regrouped ∙ ap (λ (k : ℕ). take (k + n) ((opening ++ source) ++ rest)) (sym front_long) ∙ take-append-add (opening ++ source) rest n ∙ append_assoc opening source (take n rest) in
+    cut in
     record {
       within = omega arith;
       stays = λ more.
-        let next : at + place + 1 ≡ at + (place + 1) = omega arith in
-        let up_to : take (at + place + 1) bytes ++ more ≡ opening ++ (source ++ (take (place + 1) rest ++ more)) =
+          let next : at + place + 1 ≡ at + (place + 1) = omega arith in
+          let up_to : take (at + place + 1) bytes ++ more ≡ opening ++ (source ++ (take (place + 1) rest ++ more)) =
           ap (λ (k : ℕ). take k bytes ++ more) next ∙ ap (λ (b : List ℕ). b ++ more) (front (place + 1)) ∙ append_assoc opening (source ++ take (place + 1) rest) more ∙ ap (λ (b : List ℕ). opening ++ b) (append_assoc source (take (place + 1) rest) more) in
-        let some : 0 < length (take (place + 1) rest ++ more) = omega (arith, length-append (take (place + 1) rest) more, length-take-le (place + 1) rest (omega arith)) in
-        let four : four_in (take (place + 1) rest ++ more) ≡ Err (Wrong place) = four_in-some (take (place + 1) rest ++ more) some ∙ wrong.stays more in
-        ap (parts_at from) up_to ∙ parts_at-split from source (take (place + 1) rest ++ more) long ∙ ap (λ (r : Read). messaged (source_in from source) (counted_from at r)) four;
+          let some : 0 < length (take (place + 1) rest ++ more) = omega (arith, length-append (take (place + 1) rest) more, length-take-le (place + 1) rest (omega arith)) in
+          let four : four_in (take (place + 1) rest ++ more) ≡ Err (Wrong place) = four_in-some (take (place + 1) rest ++ more) some ∙ wrong.stays more in
+          ap (parts_at from) up_to ∙ parts_at-split from source (take (place + 1) rest ++ more) long ∙ ap (λ (r : Read). messaged (source_in from source) (counted_from at r)) four;
       before = subst (Begins from) (sym (front place)) (begins_source from source (take place rest) long wrong.before);
     }
 

@@ -50,9 +50,9 @@ front_is (want ∷ wanted) [] same = sym (append-nil (want ∷ wanted))
 front_is (want ∷ wanted) (byte ∷ bytes) same =
     elim (eqb_tells byte want) [
       | inl equal ↦
-        let later : one_later (first_difference wanted bytes) ≡ None = rw equal.0 at same in
-        let behind = front_is wanted bytes (later_none (first_difference wanted bytes) later) in
-        rw (equal.1, behind) refl
+          let later : one_later (first_difference wanted bytes) ≡ None = rw equal.0 at same in
+          let behind = front_is wanted bytes (later_none (first_difference wanted bytes) later) in
+          rw (equal.1, behind) refl
       | inr other ↦ let here : (let some : Option ℕ = Some 0 in some) ≡ None = rw other.0 at same in absurd cc
     ]
 
@@ -70,26 +70,26 @@ first_differs (want ∷ wanted) [] place other = absurd cc
 first_differs (want ∷ wanted) (byte ∷ bytes) place other =
     elim (eqb_tells byte want) [
       | inl equal ↦
-        let later : one_later (first_difference wanted bytes) ≡ Some place = rw equal.0 at other in
-        let found = later_some (first_difference wanted bytes) place later in
-        let behind = first_differs wanted bytes found.0 found.1 in
-        let inside : found.0 < length wanted = behind.in_wanted in
-        let within : found.0 < length bytes = behind.in_bytes in
-        let next : place + 1 ≡ suc (found.0 + 1) = omega (arith, found.2) in
-        let is_next : place ≡ suc found.0 = omega (arith, found.2) in
-        record {
-          in_wanted = omega (arith, found.2);
-          in_bytes = omega (arith, found.2);
-          stays = λ more. rw (next, equal.0, behind.stays more) (ap (λ (k : ℕ). Some k) (sym found.2));
-          before = rw (is_next, equal.1, behind.before) refl;
-        }
+          let later : one_later (first_difference wanted bytes) ≡ Some place = rw equal.0 at other in
+          let found = later_some (first_difference wanted bytes) place later in
+          let behind = first_differs wanted bytes found.0 found.1 in
+          let inside : found.0 < length wanted = behind.in_wanted in
+          let within : found.0 < length bytes = behind.in_bytes in
+          let next : place + 1 ≡ suc (found.0 + 1) = omega (arith, found.2) in
+          let is_next : place ≡ suc found.0 = omega (arith, found.2) in
+          record {
+            in_wanted = omega (arith, found.2);
+            in_bytes = omega (arith, found.2);
+            stays = λ more. rw (next, equal.0, behind.stays more) (ap (λ (k : ℕ). Some k) (sym found.2));
+            before = rw (is_next, equal.1, behind.before) refl;
+          }
       | inr different ↦
-        let here : (let some : Option ℕ = Some 0 in some) ≡ Some place = rw different.0 at other in
-        let is_first : 0 ≡ place = cc in
-        subst (Differs (want ∷ wanted) (byte ∷ bytes)) is_first (record {
-          in_wanted = omega arith;
-          in_bytes = omega arith;
-          stays = λ more. rw different.0 refl;
-          before = refl;
-        })
+          let here : (let some : Option ℕ = Some 0 in some) ≡ Some place = rw different.0 at other in
+          let is_first : 0 ≡ place = cc in
+          subst (Differs (want ∷ wanted) (byte ∷ bytes)) is_first (record {
+            in_wanted = omega arith;
+            in_bytes = omega arith;
+            stays = λ more. rw different.0 refl;
+            before = refl;
+          })
     ]

@@ -54,7 +54,7 @@ unfolding four_in text_from
 behind_source source at bytes inside = go (text_at (drop at bytes)) refl where
   go : (r : Result (List ℕ × ℕ) Stop) → text_at (drop at bytes) ≡ r
       → (counted_from at (text_at (drop at bytes)) >>= λ options. texts_if_any 3 options.1 bytes >>= λ others. Ok (message_of source (options.0 ∷ others.0), others.1))
-        ≡ messaged source (counted_from at (text_at (drop at bytes) >>= λ x. pushed x.0 x.1 (texts_in 3 (drop x.1 (drop at bytes)))))
+      ≡ messaged source (counted_from at (text_at (drop at bytes) >>= λ x. pushed x.0 x.1 (texts_in 3 (drop x.1 (drop at bytes)))))
   go (Ok x) is =
       let within : x.1 ≤ length (drop at bytes) = text_within (drop at bytes) x.0 x.1 is in
       let others = texts_if_any-counted 3 (at + x.1) bytes (omega (arith, length-drop at bytes)) in
@@ -82,16 +82,22 @@ source_in-append Client source rest long =
 
 -- a source of so many bytes is a source of that end, and is spelled by them
 pub source_in-is : (from : Role) (source : List ℕ) → length source ≡ source_length from → IsSource from (source_in from source) × (source_bytes (source_in from source) ≡ source)
-source_in-is Server source long = (record {
+source_in-is Server source long = (
+  record {
     pre = tt;
     random1 = length-take-le 32 source (omega arith);
     random2 = length-take-le 32 (drop 32 source) (omega (arith, length-drop 32 source));
-  }, sym (take-add 32 32 source) ∙ take_all 64 source (omega arith))
-source_in-is Client source long = (record {
+  },
+  sym (take-add 32 32 source) ∙ take_all 64 source (omega arith),
+)
+source_in-is Client source long = (
+  record {
     pre = length-take-le 48 source (omega arith);
     random1 = length-take-le 32 (drop 48 source) (omega (arith, length-drop 48 source));
     random2 = length-take-le 32 (drop 80 source) (omega (arith, length-drop 80 source));
-  }, ap (λ (front : List ℕ). front ++ take 32 (drop 80 source)) (sym (take-add 48 32 source)) ∙ sym (take-add 80 32 source) ∙ take_all 112 source (omega arith))
+  },
+  ap (λ (front : List ℕ). front ++ take 32 (drop 80 source)) (sym (take-add 48 32 source)) ∙ sym (take-add 80 32 source) ∙ take_all 112 source (omega arith),
+)
 
 parts_again : (from : Role) (pre : Option (List ℕ)) (one two : List ℕ) → IsPreMaster from pre → length one ≡ 32 → length two ≡ 32
     → (length (unwrap_or pre [] ++ one ++ two) ≡ source_length from) × (source_in from (unwrap_or pre [] ++ one ++ two) ≡ record { pre = pre; random1 = one; random2 = two })

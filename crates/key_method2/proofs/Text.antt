@@ -172,9 +172,9 @@ wrong_of_size high low bytes place h l is (wrong some enough other) =
     subst (λ (p : ℕ). Wrongly (high ∷ low ∷ bytes) p) place_is (record {
       within = omega arith;
       stays = λ more.
-        let there : get_or (take size bytes ++ more) (size - 1) 0 ≡ get_or bytes (size - 1) 0 = get_or-append (take size bytes) more 0 (size - 1) (omega arith) ∙ get_or-take size bytes (size - 1) 0 (omega arith) in
-        ap (λ (bs : List ℕ). text_at (bs ++ more)) up_to ∙ text_at-pair high low (take size bytes ++ more)
-        ∙ sized_wrong size (take size bytes ++ more) some (omega (arith, length-append (take size bytes) more)) (λ zero_there. other (sym there ∙ zero_there));
+          let there : get_or (take size bytes ++ more) (size - 1) 0 ≡ get_or bytes (size - 1) 0 = get_or-append (take size bytes) more 0 (size - 1) (omega arith) ∙ get_or-take size bytes (size - 1) 0 (omega arith) in
+          ap (λ (bs : List ℕ). text_at (bs ++ more)) up_to ∙ text_at-pair high low (take size bytes ++ more)
+          ∙ sized_wrong size (take size bytes ++ more) some (omega (arith, length-append (take size bytes) more)) (λ zero_there. other (sym there ∙ zero_there));
       before = subst BeginsField (sym before) (padding size (take (size - 1) bytes), _, padded_field high low (take (size - 1) bytes) h l (omega arith));
     })
 

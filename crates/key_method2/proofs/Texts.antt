@@ -159,13 +159,13 @@ texts_taken (suc n) [] texts end fits is =
     (record { within = omega arith; count = length-replicate (suc n) []; present = 0; few = omega arith; fields = refl; left_out = ap (λ (k : ℕ). replicate k []) (let all : suc n ≡ suc n - 0 = omega arith in all); ends = λ fewer. refl })
 texts_taken (suc n) (byte ∷ bytes) texts end fits is =
     go (λ k x e. texts_taken n (drop k (byte ∷ bytes)) x.0 x.1 (IsBytes-drop k (byte ∷ bytes) fits) e) (text_at (byte ∷ bytes)) refl is where
-  go : ((k : ℕ) (x : List (List ℕ) × ℕ) → texts_in n (drop k (byte ∷ bytes)) ≡ Ok x → AllTaken n (drop k (byte ∷ bytes)) x.0 x.1)
-      → (r : Result (List ℕ × ℕ) Stop) → text_at (byte ∷ bytes) ≡ r → (r >>= λ x. pushed x.0 x.1 (texts_in n (drop x.1 (byte ∷ bytes)))) ≡ Ok (texts, end) → AllTaken (suc n) (byte ∷ bytes) texts end
-  go others (Ok x) one all =
-      let behind = texts_of_pushed x.0 x.1 (texts_in n (drop x.1 (byte ∷ bytes))) texts end all in
-      subst (λ (y : List (List ℕ) × ℕ). AllTaken (suc n) (byte ∷ bytes) y.0 y.1) (sym (pair behind.2 behind.3))
-      (taken_step n (byte ∷ bytes) x.0 x.1 behind.0 (text_taken (byte ∷ bytes) x.0 x.1 fits one) (others x.1 behind.0 behind.1))
-  go others (Err stop) one all = absurd cc
+      go : ((k : ℕ) (x : List (List ℕ) × ℕ) → texts_in n (drop k (byte ∷ bytes)) ≡ Ok x → AllTaken n (drop k (byte ∷ bytes)) x.0 x.1)
+          → (r : Result (List ℕ × ℕ) Stop) → text_at (byte ∷ bytes) ≡ r → (r >>= λ x. pushed x.0 x.1 (texts_in n (drop x.1 (byte ∷ bytes)))) ≡ Ok (texts, end) → AllTaken (suc n) (byte ∷ bytes) texts end
+      go others (Ok x) one all =
+          let behind = texts_of_pushed x.0 x.1 (texts_in n (drop x.1 (byte ∷ bytes))) texts end all in
+          subst (λ (y : List (List ℕ) × ℕ). AllTaken (suc n) (byte ∷ bytes) y.0 y.1) (sym (pair behind.2 behind.3))
+          (taken_step n (byte ∷ bytes) x.0 x.1 behind.0 (text_taken (byte ∷ bytes) x.0 x.1 fits one) (others x.1 behind.0 behind.1))
+      go others (Err stop) one all = absurd cc
 
 -- ---- where reading stops
 
@@ -220,13 +220,13 @@ texts_cut zero bytes fits is = absurd cc
 texts_cut (suc n) [] fits is = let e = texts_in-nothing (suc n) in absurd cc
 texts_cut (suc n) (byte ∷ bytes) fits is =
     go (λ k e. texts_cut n (drop k (byte ∷ bytes)) (IsBytes-drop k (byte ∷ bytes) fits) e) (text_at (byte ∷ bytes)) refl is where
-  go : ((k : ℕ) → texts_in n (drop k (byte ∷ bytes)) ≡ Err Cut → BeginFields n (drop k (byte ∷ bytes)))
-      → (r : Result (List ℕ × ℕ) Stop) → text_at (byte ∷ bytes) ≡ r → (r >>= λ x. pushed x.0 x.1 (texts_in n (drop x.1 (byte ∷ bytes)))) ≡ Err Cut → BeginFields (suc n) (byte ∷ bytes)
-  go others (Ok x) one all =
-      subst (BeginFields (suc n)) (take-append-drop x.1 (byte ∷ bytes))
-      (begins_behind n (take x.1 (byte ∷ bytes)) x.0 (drop x.1 (byte ∷ bytes)) (text_taken (byte ∷ bytes) x.0 x.1 fits one).field (others x.1 (cut_of_pushed x.0 x.1 (texts_in n (drop x.1 (byte ∷ bytes))) all)))
-  go others (Err Cut) one all = begins_first n (byte ∷ bytes) (text_cut (byte ∷ bytes) fits one)
-  go others (Err (Wrong place)) one all = absurd cc
+      go : ((k : ℕ) → texts_in n (drop k (byte ∷ bytes)) ≡ Err Cut → BeginFields n (drop k (byte ∷ bytes)))
+          → (r : Result (List ℕ × ℕ) Stop) → text_at (byte ∷ bytes) ≡ r → (r >>= λ x. pushed x.0 x.1 (texts_in n (drop x.1 (byte ∷ bytes)))) ≡ Err Cut → BeginFields (suc n) (byte ∷ bytes)
+      go others (Ok x) one all =
+          subst (BeginFields (suc n)) (take-append-drop x.1 (byte ∷ bytes))
+          (begins_behind n (take x.1 (byte ∷ bytes)) x.0 (drop x.1 (byte ∷ bytes)) (text_taken (byte ∷ bytes) x.0 x.1 fits one).field (others x.1 (cut_of_pushed x.0 x.1 (texts_in n (drop x.1 (byte ∷ bytes))) all)))
+      go others (Err Cut) one all = begins_first n (byte ∷ bytes) (text_cut (byte ∷ bytes) fits one)
+      go others (Err (Wrong place)) one all = absurd cc
 
 -- a wrong byte is the first one that is, whatever follows it
 pub record WronglyIn (n : ℕ) (bytes : List ℕ) (place : ℕ) : Type 0 where
@@ -241,8 +241,8 @@ wrong_first n bytes place one =
     record {
       within = within;
       stays = λ more.
-        let some : 0 < length (take (place + 1) bytes ++ more) = omega (arith, length-append (take (place + 1) bytes) more, length-take-le (place + 1) bytes (omega arith)) in
-        rw (if_any-some (take (place + 1) bytes ++ more) some, one.stays more) refl;
+          let some : 0 < length (take (place + 1) bytes ++ more) = omega (arith, length-append (take (place + 1) bytes) more, length-take-le (place + 1) bytes (omega arith)) in
+          rw (if_any-some (take (place + 1) bytes ++ more) some, one.stays more) refl;
       before = begins_first n (take place bytes) one.before;
     }
 
@@ -258,11 +258,11 @@ wrong_behind n bytes text k place one behind =
     record {
       within = omega (arith, length-drop k bytes);
       stays = λ more.
-        let others : List ℕ = take (place + 1) (drop k bytes) ++ more in
-        let whole : take (k + place + 1) bytes ++ more ≡ field ++ others = ap (λ (bs : List ℕ). bs ++ more) up_to ∙ append_assoc field (take (place + 1) (drop k bytes)) more in
-        let first : if_any (field ++ others) ≡ Ok (text, k) = if_any-some (field ++ others) (omega (arith, length-append field others)) ∙ text_again field text others one.field ∙ ap (λ (m : ℕ). got (text, m)) long in
-        let left : drop k (field ++ others) ≡ others = ap (λ (m : ℕ). drop m (field ++ others)) (sym long) ∙ drop-append_seam field others in
-        rw (whole, first, left, behind.stays more) refl;
+          let others : List ℕ = take (place + 1) (drop k bytes) ++ more in
+          let whole : take (k + place + 1) bytes ++ more ≡ field ++ others = ap (λ (bs : List ℕ). bs ++ more) up_to ∙ append_assoc field (take (place + 1) (drop k bytes)) more in
+          let first : if_any (field ++ others) ≡ Ok (text, k) = if_any-some (field ++ others) (omega (arith, length-append field others)) ∙ text_again field text others one.field ∙ ap (λ (m : ℕ). got (text, m)) long in
+          let left : drop k (field ++ others) ≡ others = ap (λ (m : ℕ). drop m (field ++ others)) (sym long) ∙ drop-append_seam field others in
+          rw (whole, first, left, behind.stays more) refl;
       before = subst (BeginFields (suc n)) (sym (take-add k place bytes)) (begins_behind n field text (take place (drop k bytes)) one.field behind.before);
     }
 
@@ -272,10 +272,10 @@ texts_wrong zero bytes place fits is = absurd cc
 texts_wrong (suc n) [] place fits is = let e = texts_in-nothing (suc n) in absurd cc
 texts_wrong (suc n) (byte ∷ bytes) place fits is =
     go (λ k later e. texts_wrong n (drop k (byte ∷ bytes)) later (IsBytes-drop k (byte ∷ bytes) fits) e) (text_at (byte ∷ bytes)) refl is where
-  go : ((k later : ℕ) → texts_in n (drop k (byte ∷ bytes)) ≡ Err (Wrong later) → WronglyIn n (drop k (byte ∷ bytes)) later)
-      → (r : Result (List ℕ × ℕ) Stop) → text_at (byte ∷ bytes) ≡ r → (r >>= λ x. pushed x.0 x.1 (texts_in n (drop x.1 (byte ∷ bytes)))) ≡ Err (Wrong place) → WronglyIn (suc n) (byte ∷ bytes) place
-  go others (Ok x) one all =
-      let behind = wrong_of_pushed x.0 x.1 (texts_in n (drop x.1 (byte ∷ bytes))) place all in
-      subst (WronglyIn (suc n) (byte ∷ bytes)) (sym behind.2) (wrong_behind n (byte ∷ bytes) x.0 x.1 behind.0 (text_taken (byte ∷ bytes) x.0 x.1 fits one) (others x.1 behind.0 behind.1))
-  go others (Err Cut) one all = absurd cc
-  go others (Err (Wrong here)) one all = subst (WronglyIn (suc n) (byte ∷ bytes)) (let same : here ≡ place = cc in same) (wrong_first n (byte ∷ bytes) here (text_wrong (byte ∷ bytes) here fits one))
+      go : ((k later : ℕ) → texts_in n (drop k (byte ∷ bytes)) ≡ Err (Wrong later) → WronglyIn n (drop k (byte ∷ bytes)) later)
+          → (r : Result (List ℕ × ℕ) Stop) → text_at (byte ∷ bytes) ≡ r → (r >>= λ x. pushed x.0 x.1 (texts_in n (drop x.1 (byte ∷ bytes)))) ≡ Err (Wrong place) → WronglyIn (suc n) (byte ∷ bytes) place
+      go others (Ok x) one all =
+          let behind = wrong_of_pushed x.0 x.1 (texts_in n (drop x.1 (byte ∷ bytes))) place all in
+          subst (WronglyIn (suc n) (byte ∷ bytes)) (sym behind.2) (wrong_behind n (byte ∷ bytes) x.0 x.1 behind.0 (text_taken (byte ∷ bytes) x.0 x.1 fits one) (others x.1 behind.0 behind.1))
+      go others (Err Cut) one all = absurd cc
+      go others (Err (Wrong here)) one all = subst (WronglyIn (suc n) (byte ∷ bytes)) (let same : here ≡ place = cc in same) (wrong_first n (byte ∷ bytes) here (text_wrong (byte ∷ bytes) here fits one))

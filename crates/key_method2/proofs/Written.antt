@@ -24,8 +24,13 @@ message_bytes-is m source options user pass info =
     record {
       source = source;
       fields = a ++ (b ++ (c ++ (d ++ [])));
-      are_fields = (a, b ++ (c ++ (d ++ [])), field_of-is m.options options,
-        (b, c ++ (d ++ []), field_of-is m.user user, (c, d ++ [], field_of-is m.pass pass, (d, [], field_of-is m.info info, refl, refl), refl), refl), refl);
+      are_fields = (
+        a,
+        b ++ (c ++ (d ++ [])),
+        field_of-is m.options options,
+        (b, c ++ (d ++ []), field_of-is m.user user, (c, d ++ [], field_of-is m.pass pass, (d, [], field_of-is m.info info, refl, refl), refl), refl),
+        refl,
+      );
       left_out = refl;
       whole = regroup (opening ++ source_bytes m.source) a b c d;
     }

@@ -108,7 +108,7 @@ message_of source texts = record {
   options = slice_index_or texts 0 [];
   user = slice_index_or texts 1 [];
   pass = slice_index_or texts 2 [];
-  info = slice_index_or texts 3 []
+  info = slice_index_or texts 3 [];
 }
 
 -- the message at the front, and where it ends

@@ -11,3 +11,6 @@ pub use info::{choose_cipher, info_value};
 pub use message::{Km2, Km2Bad, Km2Read, Source};
 pub use reading::read_km2;
 pub use writing::write_km2;
+
+#[cfg(test)]
+mod tests;
