@@ -1,8 +1,8 @@
 -- What reading answers is what has to be answered.
-use Rattle.std.proofs.Common.{◌≡◌, ℕ, zero, suc, ◌+◌, ◌-◌, ◌<◌, ◌≤◌, ◌⊎◌, List, [], ◌∷◌, ◌++◌, length, take, drop, Option, Some, None, Result, Ok, Err, refl, sym, ap, subst, ◌∙◌, inl, inr, arith}
+use Rattle.std.proofs.Common.{◌≡◌, ℕ, zero, suc, ◌+◌, ◌≤◌, ◌⊎◌, List, [], ◌∷◌, ◌++◌, length, take, drop, Result, Ok, Err, refl, sym, ap, subst, ◌∙◌, inl, inr, arith}
 use Rattle.std.specs.Prelude.{IfOk, ◌↔◌}
 use Rattle.std.proofs.lemmas.Bool.{cases_lt}
-use Rattle.std.proofs.lemmas.List.{take_all, take-append-drop, append-nil}
+use Rattle.std.proofs.lemmas.List.{take-append-drop, append-nil}
 use Rattle.vpn_base.specs.declared.names.Role.{Role}
 use Rattle.vpn_base.specs.declared.errors.NoMemory.{NoMemory}
 use Rattle.key_method2.specs.declared.message.Km2.{Km2}
@@ -11,7 +11,7 @@ use Rattle.key_method2.specs.declared.message.Km2Read.{Km2Read}
 use Rattle.key_method2.specs.declared.message.Km2Read.TheVariants.{Whole, More, Bad}
 use Rattle.key_method2.specs.declared.stop.Stop.{Stop}
 use Rattle.key_method2.specs.declared.stop.Stop.TheVariants.{Cut, Wrong}
-use Rattle.key_method2.specs.Message.{IsMessage, HasAllTexts, EndsEarly, Begins}
+use Rattle.key_method2.specs.Message.{HasAllTexts, EndsEarly, Begins}
 use Rattle.key_method2.specs.Judging.{IsFound, NoneInFront, IsCut, IsWrongAt, kind_at}
 use Rattle.key_method2.specs.Reading.{parts_at, answer_to, reading}
 use Rattle.key_method2.proofs.Bytes.{IsBytes}

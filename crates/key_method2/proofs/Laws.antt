@@ -1,21 +1,21 @@
 -- The laws of reading: what is read is a message, a message is read again, and where reading stops.
-use Rattle.std.proofs.Common.{◌≡◌, ℕ, zero, suc, ◌+◌, ◌-◌, ◌<◌, ◌≤◌, ◌⊎◌, Bool, true, false, ltb, List, [], ◌∷◌, ◌++◌, length, take, drop, Option, Some, None, Result, Ok, Err, refl, sym, ap, subst, ◌∙◌, append_assoc, add_assoc, take-add, inl, inr, arith}
+use Rattle.std.proofs.Common.{◌≡◌, ℕ, zero, suc, ◌+◌, ◌-◌, ◌<◌, ◌≤◌, ◌⊎◌, List, [], ◌∷◌, ◌++◌, length, take, drop, Option, Some, None, Result, Ok, Err, refl, sym, ap, subst, ◌∙◌, append_assoc, inl, inr, arith}
 use Rattle.std.proofs.Math.ListN.{replicate}
-use Rattle.std.proofs.Math.Seq.{drop-append_seam, take-append_seam, drop-append-add, take-append-add}
-use Rattle.std.proofs.lemmas.Bool.{cases_lt, le-ltb, lt-ltb}
-use Rattle.std.proofs.lemmas.List.{drop_all, take_all, take-append-drop, length-append, length-drop, length-replicate, length-take-le, append-nil, nil_from_length}
+use Rattle.std.proofs.Math.Seq.{drop-append_seam, take-append-add}
+use Rattle.std.proofs.lemmas.Bool.{cases_lt, lt-ltb}
+use Rattle.std.proofs.lemmas.List.{drop_all, take_all, take-append-drop, length-append, length-drop, length-replicate, length-take-le, append-nil}
 use Rattle.vpn_base.specs.declared.names.Role.{Role}
 use Rattle.key_method2.specs.declared.message.Source.{Source}
 use Rattle.key_method2.specs.declared.message.Km2.{Km2}
 use Rattle.key_method2.specs.declared.stop.Stop.{Stop}
 use Rattle.key_method2.specs.declared.stop.Stop.TheVariants.{Cut, Wrong}
-use Rattle.key_method2.specs.Message.{opening, IsSource, source_bytes, AreFields, texts_of, IsMessage, HasAllTexts, EndsEarly, Begins}
+use Rattle.key_method2.specs.Message.{opening, source_bytes, AreFields, texts_of, IsMessage, HasAllTexts, EndsEarly, Begins}
 use Rattle.key_method2.specs.Judging.{IsFound}
-use Rattle.key_method2.specs.Reading.{◌>>=◌, opened, first_difference, source_length, source_in, source_at, counted_from, message_of, parts_at}
+use Rattle.key_method2.specs.Reading.{first_difference, source_length, source_in, source_at, counted_from, message_of, parts_at}
 use Rattle.key_method2.proofs.Bytes.{IsBytes, IsBytes-drop}
 use Rattle.key_method2.proofs.Text.{ok_is}
-use Rattle.key_method2.proofs.Texts.{texts_in, field_some, texts_again, AllTaken, texts_taken, BeginFields, begins_first, texts_cut, WronglyIn, texts_wrong}
-use Rattle.key_method2.proofs.Opening.{differs_again, front_is, Differs, first_differs}
+use Rattle.key_method2.proofs.Texts.{field_some, texts_again, AllTaken, texts_taken, BeginFields, begins_first, texts_cut, WronglyIn, texts_wrong}
+use Rattle.key_method2.proofs.Opening.{front_is, Differs, first_differs}
 use Rattle.key_method2.proofs.Parts.{messaged, four_in, four_in-some, four_in-nothing, source_in-is, source_again, parts_at-split}
 
 abbrev got : {A : Type 0} → A → Result A Stop

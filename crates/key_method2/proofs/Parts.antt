@@ -1,23 +1,20 @@
 -- The whole message: its opening, its key source and its texts.
-use Rattle.std.proofs.Common.{◌≡◌, ℕ, zero, suc, ◌+◌, ◌-◌, ◌<◌, ◌≤◌, ◌⊎◌, List, [], ◌∷◌, ◌++◌, length, take, drop, ltb, false, Option, Some, None, Result, Ok, Err, refl, sym, ap, subst, ◌∙◌, append_assoc, add_assoc, take-add, inl, inr, arith}
+use Rattle.std.proofs.Common.{◌≡◌, ℕ, ◌+◌, ◌<◌, ◌≤◌, List, [], ◌∷◌, ◌++◌, length, take, drop, ltb, false, Option, Some, None, Result, Ok, Err, refl, sym, ap, ◌∙◌, append_assoc, add_assoc, take-add, arith}
 use Rattle.std.specs.Option.{unwrap_or}
-use Rattle.std.proofs.Math.ListN.{replicate}
-use Rattle.std.proofs.Math.Seq.{drop-append_seam, take-append_seam, drop-nil}
-use Rattle.std.proofs.lemmas.Bool.{cases_lt, le-ltb, lt-ltb}
-use Rattle.std.proofs.lemmas.List.{take_at, drop_at, take_all, take-append-drop, length-append, length-drop, length-replicate, length-take-le, take-append-le, drop-append-le, append-nil}
+use Rattle.std.proofs.Math.Seq.{drop-append_seam}
+use Rattle.std.proofs.lemmas.Bool.{le-ltb}
+use Rattle.std.proofs.lemmas.List.{take_at, drop_at, take_all, length-append, length-drop, length-take-le, take-append-le, drop-append-le}
 use Rattle.vpn_base.specs.declared.names.Role.{Role}
 use Rattle.vpn_base.specs.declared.names.Role.TheVariants.{Server, Client}
 use Rattle.key_method2.specs.declared.message.Source.{Source}
 use Rattle.key_method2.specs.declared.message.Km2.{Km2}
 use Rattle.key_method2.specs.declared.stop.Stop.{Stop}
 use Rattle.key_method2.specs.declared.stop.Stop.TheVariants.{Cut, Wrong}
-use Rattle.key_method2.specs.Message.{opening, IsPreMaster, IsSource, source_bytes, AreFields, texts_of, IsMessage, HasAllTexts, EndsEarly, Begins}
-use Rattle.key_method2.specs.Judging.{IsFound}
-use Rattle.key_method2.specs.Reading.{◌>>=◌, opened, first_difference, source_length, source_in, source_at, text_at, counted_from, text_from, texts_if_any, message_of, parts_at}
-use Rattle.key_method2.proofs.Bytes.{IsBytes, IsBytes-drop}
-use Rattle.key_method2.proofs.Text.{ok_is, text_within}
-use Rattle.key_method2.proofs.Texts.{pushed, texts_in, if_any-some, drop-add, texts_if_any-counted, field_some, texts_again, AllTaken, texts_taken, BeginFields, begins_first, texts_cut, WronglyIn, texts_wrong}
-use Rattle.key_method2.proofs.Opening.{differs_again, front_is, Differs, first_differs}
+use Rattle.key_method2.specs.Message.{opening, IsPreMaster, IsSource, source_bytes}
+use Rattle.key_method2.specs.Reading.{◌>>=◌, source_length, source_in, source_at, text_at, counted_from, text_from, texts_if_any, message_of, parts_at}
+use Rattle.key_method2.proofs.Text.{text_within}
+use Rattle.key_method2.proofs.Texts.{pushed, texts_in, if_any-some, drop-add, texts_if_any-counted}
+use Rattle.key_method2.proofs.Opening.{differs_again}
 
 abbrev got : {A : Type 0} → A → Result A Stop
 got x = Ok x

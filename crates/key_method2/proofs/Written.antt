@@ -1,5 +1,5 @@
 -- What is written is a message.
-use Rattle.std.proofs.Common.{◌≡◌, ℕ, ◌+◌, ◌<◌, ◌≤◌, List, [], ◌∷◌, ◌++◌, length, refl, sym, subst, append_assoc, inl, inr, arith}
+use Rattle.std.proofs.Common.{◌≡◌, ℕ, ◌≤◌, List, [], ◌∷◌, ◌++◌, length, refl, append_assoc, inl, inr, arith}
 use Rattle.std.proofs.lemmas.List.{append-nil}
 use Rattle.key_method2.specs.declared.message.Km2.{Km2}
 use Rattle.key_method2.specs.Message.{opening, IsSource, source_bytes, IsField, HasAllTexts}

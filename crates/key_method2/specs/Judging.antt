@@ -1,5 +1,5 @@
 -- What reading the front of a plain text has to answer.
-use Rattle.std.specs.Prelude.{◌≡◌, ℕ, ◌+◌, ◌<◌, ◌≤◌, ◌⊎◌, ◌==◌, nat_lt, List, ◌++◌, length, take, if◌then◌else◌}
+use Rattle.std.specs.Prelude.{◌≡◌, ℕ, ◌+◌, ◌≤◌, ◌⊎◌, ◌==◌, nat_lt, List, ◌++◌, length, take, if◌then◌else◌}
 use Rattle.vpn_base.specs.declared.names.Role.{Role}
 use Rattle.key_method2.specs.declared.message.Km2.{Km2}
 use Rattle.key_method2.specs.declared.message.Km2Bad.{Km2Bad}

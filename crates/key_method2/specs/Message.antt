@@ -1,5 +1,5 @@
 -- The key exchange message of key method 2 in the OpenVPN protocol, as a relation between its bytes and its parts.
-use Rattle.std.specs.Prelude.{◌≡◌, ℕ, ◌+◌, ◌-◌, ◌<◌, ◌≤◌, ◌⊎◌, List, [], ◌∷◌, ◌++◌, length, take, drop, replicate, Option, Some, None, unwrap_or}
+use Rattle.std.specs.Prelude.{◌≡◌, ℕ, ◌+◌, ◌-◌, ◌<◌, ◌⊎◌, List, [], ◌∷◌, ◌++◌, length, take, drop, replicate, Option, Some, None, unwrap_or}
 use Rattle.std.specs.Int.{w16, to_be_bytes}
 use Rattle.vpn_base.specs.declared.names.Role.{Role}
 use Rattle.vpn_base.specs.declared.names.Role.TheVariants.{Server, Client}

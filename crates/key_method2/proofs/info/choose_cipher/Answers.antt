@@ -1,5 +1,4 @@
-use Rattle.std.proofs.Common.{◌≡◌, ◌∷◌, [], false, ap, sym, ◌∙◌}
-use Rattle.std.specs.Prelude.{codes}
+use Rattle.std.proofs.Common.{false, ap, sym}
 use Rattle.std.specs.Option.{option_map_or}
 use Rattle.key_method2.specs.Info.{name_of, is_named, offers}
 use Rattle.key_method2.proofs.Names.{never_found}

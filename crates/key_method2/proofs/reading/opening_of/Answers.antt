@@ -1,4 +1,4 @@
-use Rattle.std.proofs.Common.{◌≡◌, ◌<◌, length, ap, arith}
+use Rattle.std.proofs.Common.{ap, arith}
 use Rattle.key_method2.specs.Message.{opening}
 use Rattle.key_method2.specs.Reading.{opened}
 use Rattle.key_method2.proofs.Opening.{differs_at, differs_nowhere}
