@@ -1,5 +1,5 @@
 -- Reading a key exchange message from its front: the parts, too few bytes, or the place of the first wrong one.
-use Rattle.std.specs.Prelude.{◌≡◌, ℕ, zero, suc, ◌+◌, ◌-◌, ◌≤◌, nat_lt, ◌==◌, List, [], ◌∷◌, length, take, drop, slice_index, slice_index_or, Option, Some, None, Result, Ok, Err, if◌then◌else◌}
+use Rattle.std.specs.Prelude.{ℕ, zero, suc, ◌+◌, ◌-◌, nat_lt, ◌==◌, List, [], ◌∷◌, length, take, drop, slice_index, slice_index_or, Option, Some, None, Result, Ok, Err, if◌then◌else◌}
 use Rattle.std.specs.Int.{w16, from_be_bytes}
 use Rattle.vpn_base.specs.declared.names.Role.{Role}
 use Rattle.vpn_base.specs.declared.names.Role.TheVariants.{Server, Client}
@@ -9,7 +9,6 @@ use Rattle.key_method2.specs.declared.message.Km2Read.{Km2Read}
 use Rattle.key_method2.specs.declared.message.Km2Read.TheVariants.{Whole, More, Bad}
 use Rattle.key_method2.specs.declared.stop.Stop.{Stop}
 use Rattle.key_method2.specs.declared.stop.Stop.TheVariants.{Cut, Wrong}
-use Rattle.key_method2.specs.declared.reading.Parts.{Parts}
 use Rattle.key_method2.specs.Message.{opening}
 use Rattle.key_method2.specs.Judging.{kind_at}
 
@@ -17,25 +16,6 @@ infixl 10 ◌>>=◌
 abbrev pub ◌>>=◌ : {A B : Type 0} → Result A Stop → (A → Result B Stop) → Result B Stop
 (Ok x) >>= f = f x
 (Err stop) >>= f = Err stop
-
--- what a function returned, seen by view, is what reading gives
-abbrev pub Gives : {X Y : Type 0} → (X → Y) → Result X Stop → Result Y Stop → Type 0
-Gives view (Ok x) read = read ≡ Ok (view x)
-Gives view (Err stop) read = read ≡ Err stop
-
--- a wrong byte stands at this place or before
-abbrev pub StopsBy : ℕ → Stop → Type 0
-StopsBy limit Cut = Unit {0}
-StopsBy limit (Wrong place) = place ≤ limit
-
--- what was read ends at this place or before, or a wrong byte stands there
-abbrev pub EndsBy : {X : Type 0} → ℕ → Result (X × ℕ) Stop → Type 0
-EndsBy limit (Ok x) = x.1 ≤ limit
-EndsBy limit (Err stop) = StopsBy limit stop
-
--- a message without where its texts lie
-abbrev pub view : Parts → Km2
-view parts = record { source = parts.source; options = parts.options.now; user = parts.user.now; pass = parts.pass.now; info = parts.info.now }
 
 -- a place that is one later
 abbrev pub one_later : Option ℕ → Option ℕ
@@ -126,5 +106,6 @@ answer_to (Ok x) = Whole x.0 x.1
 answer_to (Err Cut) = More
 answer_to (Err (Wrong place)) = Bad place (kind_at place)
 
+-- what reading the front of a plain text answers
 unfoldable pub reading : Role → List ℕ → Km2Read
 reading from bytes = answer_to (parts_at from bytes)

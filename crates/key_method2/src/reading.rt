@@ -3,7 +3,8 @@
 ghost use Rattle.std.specs.Prelude.{◌≡◌, ℕ, ◌+◌, ◌-◌, ◌≤◌, ◌<◌, ◌↔◌, ◌^◌, List, ◌++◌, length, take, drop, IfOk, IfErr};
 ghost use Rattle.key_method2.specs.Message.{HasAllTexts, EndsEarly, opening};
 ghost use Rattle.key_method2.specs.Judging.{IsFound, IsCut, IsWrongAt, kind_at};
-ghost use Rattle.key_method2.specs.Reading.{Gives, StopsBy, EndsBy, first_difference, opened, source_at, source_in, text_at, text_from, text_if_any, parts_at, reading, view};
+ghost use Rattle.key_method2.specs.Reading.{first_difference, opened, source_at, text_at, text_from, text_if_any, parts_at, reading};
+ghost use Rattle.key_method2.specs.Returned.{Gives, StopsBy, EndsBy, view};
 
 use crate::message::{Km2, Km2Bad, Km2Read, Source};
 use crate::stop::Stop;
@@ -219,6 +220,9 @@ pub fn read_km2(alloc: Global, bytes: &[u8], from: Role) -> Result<Km2Read, NoMe
 
     // The place and the kind are those of the first byte that no message has there.
     ensures bad { IfOk result (λ read. (place : ℕ) (kind : Km2Bad) → (read ≡ Km2Read.Bad place kind) ↔ IsWrongAt from bytes.now place kind) }
+
+    // All of this as one function of the bytes.
+    ensures exact { IfOk result (λ read. read ≡ reading from bytes.now) }
 {
     read(alloc, bytes, from)
 }
