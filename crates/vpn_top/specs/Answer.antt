@@ -63,5 +63,5 @@ pub record Answered (words : Option (List ℕ)) (holds : List ℕ → Holding) (
   pub told : Told (name_in words) refusal err_before err_after
 
 -- the output or the error output failed, or memory is short
-abbrev pub IsCutOff : ℕ → Type 0
-IsCutOff status = (status ≡ 6) ⊎ (status ≡ 8)
+abbrev pub IsCutOff : ℕ → ℕ × ℕ → ℕ × ℕ → Type 0
+IsCutOff status out err = ((status ≡ 6) × (Rose out.0 out.1 ⊎ Rose err.0 err.1)) ⊎ (status ≡ 8)

@@ -121,15 +121,25 @@ pub fn vpn_main<F: Files, S: Sink, E: Sink>(
 
     // Wrong words are refused as such, and no others.
     ensures usage { result.0 ≡ 1 → route_name (map string_bytes words.now) ≡ None }
-    ensures not_usage { route_name (map string_bytes words.now) ≡ None → (result.0 ≡ 1) ⊎ IsCutOff result.0 }
+    ensures not_usage { route_name (map string_bytes words.now) ≡ None →
+        (result.0 ≡ 1)
+        ⊎ IsCutOff result.0 (S.faults outside.out, S.faults result.1.out) (E.faults outside.err, E.faults result.1.err) }
 
-    // A file without a faulty line is printed whole, one with a faulty line is refused.
-    ensures whole { (name bytes : List ℕ) → route_name (map string_bytes words.now) ≡ Some name → F.holds outside.files name ≡ Held bytes →
-        (routes bytes).fault ≡ None → (result.0 ≡ 0) ⊎ ((result.0 ≡ 3) × Rose (F.faults outside.files) (F.faults result.1.files)) ⊎ IsCutOff result.0 }
-    ensures faulty { (name bytes : List ℕ) → route_name (map string_bytes words.now) ≡ Some name → F.holds outside.files name ≡ Held bytes →
-        IsSome (routes bytes).fault → (result.0 ≡ 2) ⊎ ((result.0 ≡ 3) × Rose (F.faults outside.files) (F.faults result.1.files)) ⊎ IsCutOff result.0 }
-    ensures missing { (name : List ℕ) → route_name (map string_bytes words.now) ≡ Some name → F.holds outside.files name ≡ Absent →
-        (result.0 ≡ 3) ⊎ IsCutOff result.0 }
+    // A file without a faulty line is printed whole, and one with a faulty line is refused.
+    ensures whole { (name bytes : List ℕ) → route_name (map string_bytes words.now) ≡ Some name →
+        F.holds outside.files name ≡ Held bytes → (routes bytes).fault ≡ None →
+        (result.0 ≡ 0)
+        ⊎ ((result.0 ≡ 3) × Rose (F.faults outside.files) (F.faults result.1.files))
+        ⊎ IsCutOff result.0 (S.faults outside.out, S.faults result.1.out) (E.faults outside.err, E.faults result.1.err) }
+    ensures faulty { (name bytes : List ℕ) → route_name (map string_bytes words.now) ≡ Some name →
+        F.holds outside.files name ≡ Held bytes → IsSome (routes bytes).fault →
+        (result.0 ≡ 2)
+        ⊎ ((result.0 ≡ 3) × Rose (F.faults outside.files) (F.faults result.1.files))
+        ⊎ IsCutOff result.0 (S.faults outside.out, S.faults result.1.out) (E.faults outside.err, E.faults result.1.err) }
+    ensures missing { (name : List ℕ) → route_name (map string_bytes words.now) ≡ Some name →
+        F.holds outside.files name ≡ Absent →
+        (result.0 ≡ 3)
+        ⊎ IsCutOff result.0 (S.faults outside.out, S.faults result.1.out) (E.faults outside.err, E.faults result.1.err) }
 
     // No call changes what files hold.
     ensures kept { (name : List ℕ) → F.holds result.1.files name ≡ F.holds outside.files name }
