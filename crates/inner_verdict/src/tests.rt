@@ -8,7 +8,6 @@ use std::test::Fail;
 fn judge<L: Ledger>(
     blank: Blank,
     table: &RouteTable,
-    subnet: Option<Prefix>,
     between: bool,
     sender: Option<Cid>,
     packet: &[u8],
@@ -18,6 +17,7 @@ fn judge<L: Ledger>(
     requires some { 0 < L.parts }
 {
     let mut steps = Steps::<L>::from_blank(blank);
+    let subnet = Prefix::new(Ip4(0x0A08_0000), 24);
     verdict_on(table, subnet, between, sender, packet, &mut steps)
 }
 
@@ -41,7 +41,6 @@ fn verdicts_in_their_order(rt: HostRuntime) -> Result<(), Fail> {
             table.add(prefix, Cid(cid))?;
         }
     }
-    let subnet = Prefix::new(Ip4(0x0A08_0000), 24);
     let one = 0x0A08_0002;
     let two = 0x0A09_0007;
     let cases = [
@@ -78,7 +77,6 @@ fn verdicts_in_their_order(rt: HostRuntime) -> Result<(), Fail> {
         let verdict = judge::<Brand>(
             Blank::new(1),
             &table,
-            subnet,
             between,
             sender.map(Cid),
             &packet,
@@ -98,7 +96,6 @@ fn verdicts_in_their_order(rt: HostRuntime) -> Result<(), Fail> {
             let verdict = judge::<Brand>(
                 Blank::new(1),
                 &table,
-                subnet,
                 false,
                 Some(Cid(1)),
                 &long[..length],
