@@ -74,13 +74,7 @@ fn verdicts_in_their_order(rt: HostRuntime) -> Result<(), Fail> {
     ];
     for (source, destination, between, sender, want) in cases {
         let packet = packet_between(source, destination);
-        let verdict = judge::<Brand>(
-            Blank::new(1),
-            &table,
-            between,
-            sender.map(Cid),
-            &packet,
-        );
+        let verdict = judge::<Brand>(Blank::new(1), &table, between, sender.map(Cid), &packet);
         assert_eq!(rt; verdict, want, "{source:x} to {destination:x}");
     }
     let mut long = [0u8; 1501];
