@@ -1,9 +1,9 @@
 -- What is read is spelled so, what is spelled so is read, and which error comes when.
-use Rattle.std.proofs.Common.{◌≡◌, ℕ, ◌+◌, ◌*◌, ◌/◌, ◌%◌, ◌^◌, ◌<◌, ◌≤◌, Bool, true, false, cond, ltb, eqb, List, [], ◌∷◌, ◌++◌, length, get_or, take, drop, Option, Some, None, Result, Ok, Err, refl, sym, ap, subst, ◌∙◌, append_assoc, arith, inl, inr}
+use Rattle.std.proofs.Common.{◌≡◌, ℕ, ◌+◌, ◌*◌, ◌/◌, ◌%◌, ◌^◌, ◌<◌, ◌≤◌, Bool, true, false, cond, ltb, eqb, List, [], ◌∷◌, ◌++◌, length, take, drop, Option, Some, None, Result, Ok, Err, refl, sym, ap, subst, ◌∙◌, append_assoc, arith}
 use Rattle.std.specs.Prelude.{IfOk}
 use Rattle.std.specs.Int.{w32, from_be_bytes, to_be_bytes}
-use Rattle.std.proofs.lemmas.Bool.{cases_lt, ltb-false}
-use Rattle.std.proofs.lemmas.List.{take_at, drop_at, drop-drop, take-append-drop, length-append, length-take, length-drop, get_or_past, get_or-drop, get_or-take}
+use Rattle.std.proofs.lemmas.Bool.{ltb-false}
+use Rattle.std.proofs.lemmas.List.{take_at, drop_at, drop-drop, take-append-drop, length-append, length-take, length-drop}
 use Rattle.std.proofs.lemmas.Nat.{be_bytes_4, from_be_bytes-to_be_bytes_4}
 use Rattle.vpn_base.specs.declared.names.Sid.{Sid}
 use Rattle.vpn_base.specs.declared.names.Malformed.{Malformed}
@@ -12,6 +12,7 @@ use Rattle.opcode_codec.specs.declared.opcodes.Opcode.{Opcode}
 use Rattle.opcode_codec.specs.declared.opcodes.Opcode.TheVariants.{SoftReset, Control, Ack, ClientReset, ServerReset, DataV2}
 use Rattle.opcode_codec.specs.declared.packets.Packet.{Packet}
 use Rattle.opcode_codec.specs.declared.packets.Packet.TheVariants as packets
+use Rattle.opcode_codec.proofs.Readings.{IsBytes, IsBytes-take, IsBytes-drop, cut, whole, enough}
 use Rattle.opcode_codec.specs.FirstByte.{code, first_byte, opcode_numbered, opcode_of}
 use Rattle.opcode_codec.specs.DataPacket.{DataForm, IsData, data_form, data_of, data_head, data_packet, three_bytes}
 use Rattle.opcode_codec.specs.Packet.{PacketForm, Wrapped, Inner, WrappedForm, IsWrapped, IsControl, wrapped_packet, packet_form, seen, shortest, form_behind, packet_with, packet_of, BeginsWith, IsCutBehind, IsCut, IsSpelled}
@@ -22,14 +23,6 @@ use Rattle.opcode_codec.specs.Packet.{PacketForm, Wrapped, Inner, WrappedForm, I
 pub seen_err : (r : Result Packet Malformed) (e : Malformed) → seen r ≡ Err e → r ≡ Err e
 seen_err (Ok p) e h = cc
 seen_err (Err d) e h = cc
-
-cut : {A : Type 0} (b : Bool) (x : A) (d e : Malformed) → cond b (Err d) (Ok x) ≡ Err e → (b ≡ true) × (d ≡ e)
-cut true x d e h = (refl, cc)
-cut false x d e h = absurd cc
-
-whole : {A : Type 0} (b : Bool) (x y : A) (d : Malformed) → cond b (Err d) (Ok x) ≡ Ok y → (b ≡ false) × (x ≡ y)
-whole true x y d h = absurd cc
-whole false x y d h = (refl, cc)
 
 -- ---- errors
 
@@ -114,9 +107,6 @@ first_is first op h = let c : code op ≡ first / 8 = code_is (first / 8) op h i
 
 -- ---- what is read is spelled so
 
-abbrev pub IsBytes : List ℕ → Type 0
-IsBytes bytes = (i : ℕ) → get_or bytes i 0 < 256
-
 -- a packet that was read has an opcode, and enough bytes
 pub record IsReadAs (o : Option Opcode) (first : ℕ) (rest : List ℕ) (x : PacketForm) : Type 0 where
   pub op : Opcode
@@ -129,16 +119,6 @@ read_as None first rest x h = absurd cc
 read_as (Some op) first rest x h =
     let w = whole (ltb (length (first ∷ rest)) (shortest op)) (form_behind op first rest) x faults.Short h in
     record { op = op; is = refl; long = ltb-false _ _ w.0; form = w.1 }
-
-IsBytes-take : (n : ℕ) (bytes : List ℕ) → IsBytes bytes → IsBytes (take n bytes)
-IsBytes-take n bytes h i =
-    elim (cases_lt i n) [
-      | inl lt ↦ rw (get_or-take n bytes i 0 lt) (h i)
-      | inr le ↦ rw (get_or_past (take n bytes) i 0 (omega (arith, length-take n bytes))) (omega arith)
-    ]
-
-IsBytes-drop : (n : ℕ) (bytes : List ℕ) → IsBytes bytes → IsBytes (drop n bytes)
-IsBytes-drop n bytes h i = rw get_or-drop (h (n + i))
 
 three_of : (a b c : ℕ) → a < 256 → b < 256 → c < 256 → three_bytes (from_be_bytes w32 (0 ∷ a ∷ b ∷ c ∷ [])) ≡ a ∷ b ∷ c ∷ []
 three_of a b c sa sb sc =
@@ -207,9 +187,6 @@ is_found (Ok p) bytes fits h = found p bytes fits (sym h)
 is_found (Err e) bytes fits h = tt
 
 -- ---- what is spelled so is read
-
-enough : (n m : ℕ) → m ≤ n → ltb n m ≡ false
-enough n m h = grind arith
 
 long_enough : (o : Option Opcode) (op : Opcode) (first : ℕ) (rest : List ℕ) → o ≡ Some op → shortest op ≤ length (first ∷ rest) →
     packet_with o first rest ≡ Ok (form_behind op first rest)

@@ -1,6 +1,6 @@
 //! Fields of a fixed length.
 
-ghost use Rattle.std.specs.Prelude.{◌≡◌, ◌≤◌, length, take};
+ghost use Rattle.std.specs.Prelude.{◌≡◌, ◌+◌, ◌≤◌, length, take, drop};
 ghost use Rattle.std.specs.Int.{w32, from_be_bytes};
 
 pub(crate) fn array_of<const N: usize>(bytes: &[u8]) -> [u8; N]
@@ -12,10 +12,15 @@ pub(crate) fn array_of<const N: usize>(bytes: &[u8]) -> [u8; N]
     array
 }
 
-// The number in the first four bytes, the highest first.
-pub(crate) fn number_of(bytes: &[u8]) -> u32
-    requires { 4 ≤ length bytes.now }
-    ensures { result ≡ from_be_bytes w32 (take 4 bytes.now) }
+// The number in the four bytes from a place on, the highest first.
+pub(crate) fn number_at(bytes: &[u8], place: usize) -> u32
+    requires { place + 4 ≤ length bytes.now }
+    ensures { result ≡ from_be_bytes w32 (take 4 (drop place bytes.now)) }
 {
-    u32::from_be_bytes([bytes[0], bytes[1], bytes[2], bytes[3]])
+    u32::from_be_bytes([
+        bytes[place],
+        bytes[place + 1],
+        bytes[place + 2],
+        bytes[place + 3],
+    ])
 }

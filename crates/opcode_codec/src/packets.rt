@@ -5,7 +5,7 @@ ghost use Rattle.opcode_codec.specs.FirstByte.{opcode_of};
 ghost use Rattle.opcode_codec.specs.DataPacket.{DataForm, IsData, data_form, data_of, data_head, data_packet};
 ghost use Rattle.opcode_codec.specs.Packet.{WrappedForm, IsWrapped, wrapped_packet, packet_of, seen, BeginsWith, IsCut, IsSpelled, data_packet_form, wrapped_packet_form};
 
-use crate::fields::{array_of, number_of};
+use crate::fields::{array_of, number_at};
 use crate::opcodes::{Opcode, opcode_of};
 use vpn_base::{Malformed, Sid};
 
@@ -53,7 +53,7 @@ fn read_data(first: u8, d: &[u8]) -> DataView<'_>
     DataView {
         kid: first % 8,
         peer: u32::from_be_bytes([0, d[1], d[2], d[3]]),
-        id: number_of(&d[4..]),
+        id: number_at(d, 4),
         tag: array_of(&d[8..24]),
         sealed: &d[24..],
     }
