@@ -1,0 +1,4 @@
+pub mod FirstByte
+pub mod DataPacket
+pub mod Packet
+pub mod ControlText
