@@ -1,5 +1,7 @@
 -- Sums of lists of bytes, part by part.
 use Rattle.std.proofs.Common.{◌≡◌, ℕ, zero, suc, ◌+◌, ◌-◌, ◌<◌, ◌≤◌, List, [], ◌∷◌, ◌++◌, length, get_or, set, take, drop, bit_xor, refl, sym, ap, ◌∙◌, arith}
+use Rattle.std.proofs.lemmas.Nat.{xor_comm}
+use lib.Bits.{xor_assoc}
 use Rattle.aes_core.specs.Field.{xor_bytes}
 
 -- a sum is as long as its first list
@@ -18,6 +20,17 @@ xor_bytes-take [] ys = refl
 xor_bytes-take (x ∷ xs) [] = refl
 xor_bytes-take (x ∷ xs) (y ∷ ys) = ap (λ r. bit_xor x y ∷ r) (xor_bytes-take xs ys)
 
+xor_swap : (a b c : ℕ) → bit_xor (bit_xor a b) c ≡ bit_xor (bit_xor a c) b
+xor_swap a b c = xor_assoc a b c ∙ ap (bit_xor a) (xor_comm b c) ∙ sym (xor_assoc a c b)
+
+-- the order in which two lists are added is free
+pub xor_bytes-swap : (xs ys zs : List ℕ) → xor_bytes (xor_bytes xs ys) zs ≡ xor_bytes (xor_bytes xs zs) ys
+xor_bytes-swap [] ys zs = refl
+xor_bytes-swap (x ∷ xs) [] [] = refl
+xor_bytes-swap (x ∷ xs) [] (z ∷ zs) = refl
+xor_bytes-swap (x ∷ xs) (y ∷ ys) [] = refl
+xor_bytes-swap (x ∷ xs) (y ∷ ys) (z ∷ zs) = λ i. xor_swap x y z i ∷ xor_bytes-swap xs ys zs i
+
 -- only the front of the first list changes
 pub xor_bytes-front : (xs ys : List ℕ) (n : ℕ) → n ≡ length ys → n ≤ length xs
     → xor_bytes (take n xs) ys ++ drop n xs ≡ xor_bytes xs ys
@@ -35,6 +48,16 @@ pub set-xor : (xs : List ℕ) (i y : ℕ) → i < length xs
 set-xor [] i y h = absurd (omega arith)
 set-xor (x ∷ xs) zero y h = ap (λ r. bit_xor x y ∷ r) (sym (xor_bytes-nil xs))
 set-xor (x ∷ xs) (suc i) y h = ap (λ r. x ∷ r) (set-xor xs i y (omega arith))
+
+-- four writes in a row
+pub set_four : (xs : List ℕ) (at a b c d : ℕ) → at + 4 ≤ length xs
+    → set (set (set (set xs at a) (suc at) b) (suc (suc at)) c) (suc (suc (suc at))) d ≡ take at xs ++ (a ∷ b ∷ c ∷ d ∷ drop 4 (drop at xs))
+set_four [] at a b c d h = absurd (omega arith)
+set_four (w ∷ []) zero a b c d h = absurd (omega arith)
+set_four (w ∷ x ∷ []) zero a b c d h = absurd (omega arith)
+set_four (w ∷ x ∷ y ∷ []) zero a b c d h = absurd (omega arith)
+set_four (w ∷ x ∷ y ∷ z ∷ xs) zero a b c d h = refl
+set_four (w ∷ xs) (suc at) a b c d h = ap (λ r. w ∷ r) (set_four xs at a b c d (omega arith))
 
 -- to add two lists, one behind the other, is to add the first, and then the second to what is behind it
 pub xor_bytes-append : (xs ys zs : List ℕ) (n : ℕ) → n ≡ length ys → n ≤ length xs

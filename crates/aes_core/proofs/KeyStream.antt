@@ -1,7 +1,7 @@
 -- The key stream, block by block.
 use Rattle.std.proofs.Common.{◌≡◌, ℕ, zero, suc, ◌+◌, ◌-◌, ◌*◌, ◌/◌, ◌%◌, ◌^◌, ◌<◌, ◌≤◌, List, [], ◌++◌, length, take, drop, refl, sym, ap, ◌∙◌, arith, add-one, length-append}
 use Rattle.std.specs.Int.{from_be_bytes, to_be_bytes, w128}
-use Rattle.aes_core.specs.Cipher.{cipher, cipher_under, round_key, rounds, shift_rows, sub_bytes}
+use Rattle.aes_core.specs.Cipher.{cipher, cipher_under, round_key, shift_rows, state_after, sub_bytes}
 use Rattle.aes_core.specs.CounterMode.{key_stream, output_blocks}
 use Rattle.aes_core.specs.Field.{xor_bytes}
 use Rattle.aes_core.specs.KeyExpansion.{key_expansion, round_count}
@@ -20,7 +20,7 @@ pub length-cipher : (key input : List ℕ) → length (cipher key input) ≡ 16
 unfolding cipher cipher_under
 length-cipher key input =
     length-xor_bytes
-    (shift_rows (sub_bytes (rounds (key_expansion key) input (round_count key - 1))))
+    (shift_rows (sub_bytes (state_after (key_expansion key) input (round_count key - 1))))
     (round_key (key_expansion key) (round_count key))
 
 pub output_blocks-next : (key : List ℕ) (first n : ℕ)
@@ -52,9 +52,9 @@ streamed_all key bytes iv first n begins e =
     (λ i. xor_bytes bytes (output_blocks key (begins i) (e i)))
     ∙ sym (xor_bytes-take bytes (output_blocks key (from_be_bytes w128 iv) ((length bytes + 15) / 16)))
 
--- the bytes of a block under a key schedule, whose input is a counter
-pub counter_output : (words : List ℕ) (rounds : ℕ) (key input : List ℕ) (counter n : ℕ) → IsSchedule words rounds → key_bytes words rounds ≡ key
-    → input ≡ to_be_bytes w128 counter → counter ≡ n
-    → cipher_under (schedule_words words rounds) input rounds ≡ cipher key (to_be_bytes w128 n)
-counter_output words rounds key input counter n held is block e =
-    cipher_of words rounds key input held is ∙ ap (cipher key) (block ∙ ap (to_be_bytes w128) e)
+-- what a key schedule gives for a counter is the cipher for the key that it begins with
+pub counter_output : (words : List ℕ) (rounds : ℕ) (key output : List ℕ) (counter n : ℕ) → IsSchedule words rounds → key_bytes words rounds ≡ key
+    → output ≡ cipher_under (schedule_words words rounds) (to_be_bytes w128 counter) rounds → counter ≡ n
+    → output ≡ cipher key (to_be_bytes w128 n)
+counter_output words rounds key output counter n held is gives e =
+    gives ∙ cipher_of words rounds key (to_be_bytes w128 counter) held is ∙ ap (λ k. cipher key (to_be_bytes w128 k)) e

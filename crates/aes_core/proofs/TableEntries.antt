@@ -4,6 +4,7 @@ use Rattle.std.specs.Prelude.{map}
 use Rattle.std.specs.List.{range_with_len}
 use Rattle.std.proofs.lemmas.List.{get_or-map}
 use Rattle.std.proofs.lemmas.List.FromFn.{get_or-map-range_with_len}
+use Rattle.aes_core.specs.Columns.{mixed_part}
 use Rattle.aes_core.specs.Field.{product, product_below, times_power}
 use Rattle.aes_core.specs.SBox.{affine, affine_below, inverse, inverse_below, sbox}
 use Rattle.aes_core.specs.Words.{word_bytes}
@@ -25,14 +26,7 @@ constants_table = refl
 pub constant_at : (i : ℕ) → i < 10 → get_or ROUND_CONSTANTS i 0 ≡ times_power 1 i
 constant_at i h = ap (λ xs. get_or xs i 0) constants_table ∙ get_or-map-range_with_len (times_power 1) 0 10 i i 0 h (omega arith)
 
--- what a byte of a row, s after SubBytes, adds to its column by MixColumns
-abbrev pub mixed_part : ℕ → ℕ → List ℕ
-mixed_part zero s = product 2 s ∷ s ∷ s ∷ product 3 s ∷ []
-mixed_part (suc zero) s = product 3 s ∷ product 2 s ∷ s ∷ s ∷ []
-mixed_part (suc (suc zero)) s = s ∷ product 3 s ∷ product 2 s ∷ s ∷ []
-mixed_part (suc (suc (suc r))) s = s ∷ s ∷ product 3 s ∷ product 2 s ∷ []
-
--- the same at a place of the table, by the S-box's table
+-- what the table has at a place, by the S-box's table
 abbrev mixed_place : ℕ → List ℕ
 mixed_place i = mixed_part (i / 256) (get_or SBOX (i % 256) 0)
 

@@ -58,13 +58,13 @@ abbrev pub final_round : List ℕ → List ℕ → List ℕ
 final_round state key = add_round_key (shift_rows (sub_bytes state)) key
 
 -- the state after the first AddRoundKey and n rounds (5.1)
-unfoldable pub rounds : List (List ℕ) → List ℕ → ℕ → List ℕ
-rounds words input zero = add_round_key input (round_key words 0)
-rounds words input (suc n) = round (rounds words input n) (round_key words (suc n))
+unfoldable pub state_after : List (List ℕ) → List ℕ → ℕ → List ℕ
+state_after words input zero = add_round_key input (round_key words 0)
+state_after words input (suc n) = round (state_after words input n) (round_key words (suc n))
 
 -- the output for an input under a key schedule, in nr rounds (5.1)
 unfoldable pub cipher_under : List (List ℕ) → List ℕ → ℕ → List ℕ
-cipher_under words input nr = final_round (rounds words input (nr - 1)) (round_key words nr)
+cipher_under words input nr = final_round (state_after words input (nr - 1)) (round_key words nr)
 
 -- the output of the cipher for a key and an input (5.1)
 unfoldable pub cipher : List ℕ → List ℕ → List ℕ

@@ -5,3 +5,5 @@ pub mod KeyExpansion
 pub mod CounterMode
 pub mod Words
 pub mod Schedule
+pub mod Columns
+pub mod SharedRounds

@@ -27,7 +27,12 @@ fn xor_word(bytes: &mut [u8], at: usize, word: u32)
     ensures { bytes.new ≡ take at bytes.old ++ xor_bytes (drop at bytes.old) (word_bytes word) }
 {
     let sum = load_word(bytes, at) ^ word;
-    bytes[at..at + 4].copy_from_slice(&sum.to_be_bytes());
+    // One by one: `copy_from_slice` tests whether its slices overlap.
+    let [a, b, c, d] = sum.to_be_bytes();
+    bytes[at] = a;
+    bytes[at + 1] = b;
+    bytes[at + 2] = c;
+    bytes[at + 3] = d;
 }
 
 // Adds a block to the 16 bytes at `at`.

@@ -9,12 +9,16 @@ ghost use Rattle.aes_core.specs.CounterMode.{key_stream};
 mod counter;
 mod rounds;
 mod schedule;
+mod shared;
 mod tables;
+#[cfg(test)]
+mod tests;
 mod words;
 
 use counter::{counter_block, xor_block, xor_front};
-use rounds::encrypt;
+use rounds::{encrypt, finish};
 use schedule::{SCHEDULE_LEN, expand};
+use shared::SharedRounds;
 use std::marker::Model;
 use words::State;
 
@@ -72,11 +76,13 @@ impl AesKey {
         ensures { bytes.new ≡ xor_bytes bytes.old (key_stream self.now iv (length bytes.old)) }
     {
         let mut counter = u128::from_be_bytes(iv);
+        let mut shared = SharedRounds::new(&self.words, counter);
         let whole = bytes.len() / 16;
         'turns: for i in 0..whole {
-            let stream = encrypt(&self.words, self.rounds, counter_block(counter));
-            xor_block(bytes, 16 * i, stream);
+            let two = shared.two_rounds((counter & 0xff) as u8);
+            xor_block(bytes, 16 * i, finish(&self.words, self.rounds, two));
             counter = counter.wrapping_add(1);
+            shared = shared.next(&self.words, counter);
         }
         if bytes.len() % 16 > 0 {
             let stream = encrypt(&self.words, self.rounds, counter_block(counter));

@@ -1,7 +1,8 @@
 //! The tables of the cipher: the S-box, and MixColumns of the S-box for each row.
 
-ghost use Rattle.std.specs.Prelude.{◌≡◌, ◌-◌, ◌≤◌, [], ◌∷◌};
-ghost use Rattle.aes_core.specs.Field.{product, times_power};
+ghost use Rattle.std.specs.Prelude.{◌≡◌, ◌-◌, ◌≤◌};
+ghost use Rattle.aes_core.specs.Columns.{mixed_part};
+ghost use Rattle.aes_core.specs.Field.{times_power};
 ghost use Rattle.aes_core.specs.SBox.{sbox};
 ghost use Rattle.aes_core.specs.Words.{word_bytes};
 
@@ -191,28 +192,28 @@ pub(crate) fn sbox(byte: u8) -> u8
 // functions below say it of the other rows.
 #[inline(always)]
 pub(crate) fn mixed_row0(byte: u8) -> u32
-    ensures { word_bytes result ≡ product 2 (sbox byte) ∷ sbox byte ∷ sbox byte ∷ product 3 (sbox byte) ∷ [] }
+    ensures { word_bytes result ≡ mixed_part 0 (sbox byte) }
 {
     round_table()[byte as usize]
 }
 
 #[inline(always)]
 pub(crate) fn mixed_row1(byte: u8) -> u32
-    ensures { word_bytes result ≡ product 3 (sbox byte) ∷ product 2 (sbox byte) ∷ sbox byte ∷ sbox byte ∷ [] }
+    ensures { word_bytes result ≡ mixed_part 1 (sbox byte) }
 {
     round_table()[256 + byte as usize]
 }
 
 #[inline(always)]
 pub(crate) fn mixed_row2(byte: u8) -> u32
-    ensures { word_bytes result ≡ sbox byte ∷ product 3 (sbox byte) ∷ product 2 (sbox byte) ∷ sbox byte ∷ [] }
+    ensures { word_bytes result ≡ mixed_part 2 (sbox byte) }
 {
     round_table()[512 + byte as usize]
 }
 
 #[inline(always)]
 pub(crate) fn mixed_row3(byte: u8) -> u32
-    ensures { word_bytes result ≡ sbox byte ∷ sbox byte ∷ product 3 (sbox byte) ∷ product 2 (sbox byte) ∷ [] }
+    ensures { word_bytes result ≡ mixed_part 3 (sbox byte) }
 {
     round_table()[768 + byte as usize]
 }

@@ -1,34 +1,16 @@
-use Rattle.std.proofs.Common.{◌≡◌, ◌+◌, ◌-◌, ◌*◌, ◌≤◌, length, arith}
+use Rattle.std.proofs.Common.{◌≡◌, ◌+◌, ◌*◌, ◌≤◌, length, arith}
 use Rattle.aes_core.specs.Schedule.{schedule_words}
 use Rattle.aes_core.specs.Words.{state_bytes}
-use Rattle.aes_core.proofs.RoundSteps.{round_key_of, rounds_last, rounds_next, rounds_none}
+use Rattle.aes_core.proofs.RoundSteps.{round_key_of, rounds_next, rounds_none}
 use Rattle.aes_core.proofs.rounds.encrypt.Goals as goal
-
-pub pairs-init : goal.pairs-init
-pairs-init c =
-    let words = c.args.words.now in
-    let nr = c.args.rounds in
-    let ws = schedule_words words nr in
-    let input = state_bytes c.args.block in
-    let none = rounds_none ws input _ _ c.add_key.ensures (round_key_of words nr 0 0 (omega arith) (omega arith) (omega arith)) in
-    rounds_next ws input _ _ _ 0 1 (omega arith) none c.round-state.ensures (round_key_of words nr 1 4 (omega arith) (omega arith) (omega arith))
-
-pub pairs-preserved : goal.pairs-preserved
-pairs-preserved c =
-    let words = c.args.words.now in
-    let nr = c.args.rounds in
-    let ws = schedule_words words nr in
-    let input = state_bytes c.args.block in
-    let pair = c.pairs.pair in
-    let one = rounds_next ws input _ _ _ (2 * pair - 1) (2 * pair) (omega arith) c.pairs.invariant c.round-state-in-pairs.ensures
-    (round_key_of words nr (2 * pair) (8 * pair) (omega arith) (omega arith) (omega arith)) in
-    rounds_next ws input _ _ _ (2 * pair) (2 * (pair + 1) - 1) (omega arith) one c.round-state-in-pairs-2.ensures
-    (round_key_of words nr (2 * (pair + 1) - 1) (8 * pair + 4) (omega arith) (omega arith) (omega arith))
 
 pub returns : goal.returns
 returns c =
     let words = c.args.words.now in
     let nr = c.args.rounds in
-    let done : 2 * c.pairs.pair - 1 ≡ nr - 1 = omega (arith, c.pairs.auto.pair-end (omega arith)) in
-    rounds_last (schedule_words words nr) (state_bytes c.args.block) _ _ _ (2 * c.pairs.pair - 1) nr done c.pairs.invariant c.final_round.ensures
-    (round_key_of words nr nr (4 * nr) (omega arith) (omega arith) (omega arith))
+    let ws = schedule_words words nr in
+    let input = state_bytes c.args.block in
+    let none = rounds_none ws input _ _ c.add_key-start.ensures (round_key_of words nr 0 0 (omega arith) (omega arith) (omega arith)) in
+    let one = rounds_next ws input _ _ _ 0 1 (omega arith) none c.round.ensures (round_key_of words nr 1 4 (omega arith) (omega arith) (omega arith)) in
+    let two = rounds_next ws input _ _ _ 1 2 (omega arith) one c.round-2.ensures (round_key_of words nr 2 8 (omega arith) (omega arith) (omega arith)) in
+    c.finish.ensures input two

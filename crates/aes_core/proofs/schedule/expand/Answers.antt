@@ -18,7 +18,7 @@ key-preserved c =
     let word = c.load_word.result in (
       length-set words i word ∙ c.key.invariant.0,
       words_next key words i word (omega arith) c.key.invariant.1
-      (c.load_word.ensures ∙ sym (next_word_first key (key_words key i) i (omega arith))),
+          (c.load_word.ensures ∙ sym (next_word_first key (key_words key i) i (omega arith))),
       bytes_next key words i word (omega arith) c.key.invariant.2 c.load_word.ensures,
     )
 
@@ -30,7 +30,7 @@ rest-preserved c =
     let word = bit_xor (get_or words (i - length key / 4) 0) c.added_word.result in (
       length-set words i word ∙ c.rest.invariant.0,
       words_next key words i word (omega arith) c.rest.invariant.1
-      (later_word key words i c.added_word.result (omega arith) (omega arith) (omega arith) c.rest.invariant.1 c.added_word.ensures),
+          (later_word key words i c.added_word.result (omega arith) (omega arith) (omega arith) c.rest.invariant.1 c.added_word.ensures),
       ap (flat_map word_bytes) (take-set-le (length key / 4) words i word (omega arith)) ∙ c.rest.invariant.2,
     )
 

@@ -1,0 +1,12 @@
+use Rattle.std.proofs.Common.{◌∙◌}
+use Rattle.aes_core.specs.Cipher.{mixed_column}
+use Rattle.aes_core.specs.Field.{xor_bytes}
+use Rattle.aes_core.specs.SBox.{sbox}
+use Rattle.aes_core.specs.Words.{word_bytes}
+use Rattle.aes_core.proofs.Columns.{column_but_2}
+use Rattle.aes_core.proofs.shared.column_but_row2.Goals as goal
+
+pub returns : goal.returns
+returns c = λ x.
+    column_but_2 c.mixed_row0.result c.mixed_row1.result c.mixed_row3.result c.args.key _ _ _ x c.mixed_row0.ensures c.mixed_row1.ensures c.mixed_row3.ensures
+    ∙ (λ i. xor_bytes (mixed_column (sbox (c.byte3.ensures i)) (sbox (c.byte2.ensures i)) x (sbox (c.byte0.ensures i))) (word_bytes c.args.key))
