@@ -1,6 +1,7 @@
 -- A column after a round, from the words that the tables give for its bytes.
-use Rattle.std.proofs.Common.{◌≡◌, ℕ, List, [], ◌∷◌, bit_xor, ap, ◌∙◌}
+use Rattle.std.proofs.Common.{◌≡◌, ℕ, List, [], ◌∷◌, bit_xor, sym, ap, ◌∙◌}
 use Rattle.std.proofs.lemmas.Nat.{xor_comm}
+use lib.Bits.{xor_assoc}
 use Rattle.aes_core.specs.Cipher.{mixed_column}
 use Rattle.aes_core.specs.Columns.{mixed_part}
 use Rattle.aes_core.specs.Field.{product, xor_bytes}
@@ -8,6 +9,17 @@ use Rattle.aes_core.specs.SBox.{sbox}
 use Rattle.aes_core.specs.Words.{word_bytes}
 use Rattle.aes_core.proofs.InPlace.{xor_bytes-swap}
 use Rattle.aes_core.proofs.WordBytes.{word_bytes-xor}
+
+-- a sum the other way round
+pub xor_reversed : (p q r s key : ℕ)
+    → bit_xor (bit_xor (bit_xor (bit_xor key s) r) q) p ≡ bit_xor (bit_xor (bit_xor (bit_xor p q) r) s) key
+xor_reversed p q r s key =
+    xor_comm (bit_xor (bit_xor (bit_xor key s) r) q) p
+    ∙ ap (bit_xor p)
+    (xor_comm (bit_xor (bit_xor key s) r) q ∙ ap (bit_xor q) (xor_comm (bit_xor key s) r ∙ ap (bit_xor r) (xor_comm key s)))
+    ∙ sym (xor_assoc p q (bit_xor r (bit_xor s key)))
+    ∙ sym (xor_assoc (bit_xor p q) r (bit_xor s key))
+    ∙ sym (xor_assoc (bit_xor (bit_xor p q) r) s key)
 
 -- from the words of all four bytes
 pub column_of : (p q r s key a b c d : ℕ)

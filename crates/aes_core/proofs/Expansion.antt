@@ -1,8 +1,8 @@
 -- The key schedule, word by word.
-use Rattle.std.proofs.Common.{◌≡◌, ◌≢◌, ℕ, zero, suc, ◌+◌, ◌-◌, ◌*◌, ◌/◌, ◌%◌, ◌<◌, ◌≤◌, Bool, true, false, nat_lt, List, [], ◌∷◌, ◌++◌, length, bit_xor, get_or, set, take, drop, refl, sym, ap, ◌∙◌, arith, add-one, rules}
+use Rattle.std.proofs.Common.{◌≡◌, ℕ, ◌+◌, ◌-◌, ◌*◌, ◌/◌, ◌%◌, ◌<◌, ◌≤◌, true, false, nat_lt, List, [], ◌∷◌, ◌++◌, length, bit_xor, get_or, set, take, drop, refl, sym, ap, ◌∙◌, arith, add-one, rules}
 use Rattle.std.specs.Prelude.{map, flat_map, if◌then◌else◌}
-use Rattle.aes_core.specs.Field.{times_power, xor_bytes}
-use Rattle.aes_core.specs.KeyExpansion.{added_word, key_expansion, key_length, key_words, next_word, rcon, rot_word, round_count, sub_word, word_at}
+use Rattle.aes_core.specs.Field.{xor_bytes}
+use Rattle.aes_core.specs.KeyExpansion.{added_word, key_length, key_words, next_word, rcon, rot_word, sub_word, word_at}
 use Rattle.aes_core.specs.Words.{word_bytes}
 use Rattle.aes_core.proofs.RoundSteps.{word_of}
 use Rattle.aes_core.proofs.WordBytes.{word_bytes-xor}

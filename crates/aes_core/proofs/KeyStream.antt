@@ -1,5 +1,5 @@
 -- The key stream, block by block.
-use Rattle.std.proofs.Common.{◌≡◌, ℕ, zero, suc, ◌+◌, ◌-◌, ◌*◌, ◌/◌, ◌%◌, ◌^◌, ◌<◌, ◌≤◌, List, [], ◌++◌, length, take, drop, refl, sym, ap, ◌∙◌, arith, add-one, length-append}
+use Rattle.std.proofs.Common.{◌≡◌, ℕ, zero, suc, ◌+◌, ◌-◌, ◌*◌, ◌/◌, ◌%◌, ◌^◌, ◌≤◌, List, ◌++◌, length, take, drop, refl, sym, ap, ◌∙◌, arith, add-one, length-append}
 use Rattle.std.specs.Int.{from_be_bytes, to_be_bytes, w128}
 use Rattle.aes_core.specs.Cipher.{cipher, cipher_under, round_key, shift_rows, state_after, sub_bytes}
 use Rattle.aes_core.specs.CounterMode.{key_stream, output_blocks}

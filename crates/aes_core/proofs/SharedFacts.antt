@@ -1,5 +1,5 @@
 -- The first two rounds of blocks that differ in the last byte alone.
-use Rattle.std.proofs.Common.{◌≡◌, ℕ, ◌+◌, ◌/◌, ◌%◌, ◌^◌, List, [], ◌∷◌, ◌++◌, bit_xor, get_or, take, refl, sym, ap, ◌∙◌}
+use Rattle.std.proofs.Common.{◌≡◌, ℕ, ◌+◌, ◌/◌, ◌%◌, ◌^◌, List, [], ◌∷◌, ◌++◌, bit_xor, get_or, take, sym, ap, ◌∙◌}
 use Rattle.std.proofs.lemmas.Nat.{shr-shr}
 use Rattle.std.specs.Int.{byte_at, to_be_bytes, w128}
 use Rattle.aes_core.specs.Cipher.{add_round_key, mixed_column, round}

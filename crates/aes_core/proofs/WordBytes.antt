@@ -1,5 +1,5 @@
 -- The bytes of words: of a sum, of a word made of bytes, of a part of a counter.
-use Rattle.std.proofs.Common.{◌≡◌, ℕ, zero, suc, ◌+◌, ◌*◌, ◌/◌, ◌%◌, ◌^◌, ◌<◌, ◌≤◌, List, [], ◌∷◌, ◌++◌, length, get_or, take, drop, bit_and, bit_xor, refl, sym, ap, ◌∙◌, arith, w32}
+use Rattle.std.proofs.Common.{◌≡◌, ℕ, suc, ◌+◌, ◌/◌, ◌%◌, ◌^◌, ◌<◌, ◌≤◌, List, [], ◌∷◌, ◌++◌, length, get_or, take, drop, bit_and, bit_xor, sym, ap, ◌∙◌, arith, w32}
 use Rattle.std.proofs.lemmas.Nat.{and_mask, shr-shr, xor_shr, xor_mod}
 use Rattle.std.proofs.Math.Seq.{drop-cons}
 use Rattle.std.specs.Int.{from_be_bytes, to_be_bytes, w128}

@@ -1,5 +1,5 @@
 -- The field GF(2^8) (FIPS 197, section 4): a byte is a polynomial, bit i is the coefficient of x ^ i.
-use Rattle.std.specs.Prelude.{ℕ, zero, suc, ◌*◌, ◌%◌, List, [], ◌∷◌, bit_xor, nat_lt, if◌then◌else◌}
+use Rattle.std.specs.Prelude.{ℕ, zero, suc, ◌*◌, List, [], ◌∷◌, bit_xor, nat_lt, if◌then◌else◌}
 use Rattle.std.specs.Int.{bit_at}
 
 -- the sum of two lists, byte by byte (4.1); what the second list does not reach stays as it is

@@ -47,7 +47,7 @@ pub(crate) fn xor_block(bytes: &mut [u8], at: usize, block: State)
     xor_word(bytes, at + 12, block.d);
 }
 
-// Adds the front of a block to the bytes from `at` on, of which there are fewer than 16.
+// Adds the front of a block to the bytes from `at` on, of which there are at most 16.
 pub(crate) fn xor_front(bytes: &mut [u8], at: usize, block: &[u8; 16])
     requires start { at ≤ length bytes.old }
     requires few { length bytes.old ≤ at + 16 }

@@ -1,7 +1,7 @@
 //! AES with keys of 128 and 256 bits (FIPS 197), and its counter mode (SP 800-38A, 6.5).
 #![tactic(auto)]
 
-ghost use Rattle.std.specs.Prelude.{◌≡◌, ℕ, ◌+◌, ◌*◌, ◌≤◌, ◌<◌, length, take, drop, ◌++◌};
+ghost use Rattle.std.specs.Prelude.{◌≡◌, length};
 ghost use Rattle.aes_core.specs.Field.{xor_bytes};
 ghost use Rattle.aes_core.specs.Cipher.{cipher};
 ghost use Rattle.aes_core.specs.CounterMode.{key_stream};
@@ -21,6 +21,9 @@ use schedule::{SCHEDULE_LEN, expand};
 use shared::SharedRounds;
 use std::marker::Model;
 use words::State;
+
+// The bytes of a block.
+const BLOCK_LEN: usize = 16;
 
 /// An AES key with its schedule expanded once. Contracts see it as the key's bytes, 16 or 32 of them.
 #[derive(Drop)]
@@ -69,24 +72,24 @@ impl AesKey {
         encrypt(&self.words, self.rounds, State::from_block(&block)).to_block()
     }
 
-    /// Adds the key stream of the counter mode to the bytes in place, as many as there are: it
-    /// encrypts, and it decrypts. The counter is the whole block, begins at `iv` and wraps
+    /// Adds the key stream of the counter mode to the bytes in place, whatever their number, and so
+    /// encrypts or decrypts them. The counter is the whole block, begins at `iv` and wraps
     /// (SP 800-38A, 6.5 and B.1).
     pub fn ctr(&self, iv: [u8; 16], bytes: &mut [u8])
         ensures { bytes.new ≡ xor_bytes bytes.old (key_stream self.now iv (length bytes.old)) }
     {
         let mut counter = u128::from_be_bytes(iv);
         let mut shared = SharedRounds::new(&self.words, counter);
-        let whole = bytes.len() / 16;
+        let whole = bytes.len() / BLOCK_LEN;
         'turns: for i in 0..whole {
             let two = shared.two_rounds((counter & 0xff) as u8);
-            xor_block(bytes, 16 * i, finish(&self.words, self.rounds, two));
+            xor_block(bytes, BLOCK_LEN * i, finish(&self.words, self.rounds, two));
             counter = counter.wrapping_add(1);
             shared = shared.next(&self.words, counter);
         }
-        if bytes.len() % 16 > 0 {
+        if bytes.len() % BLOCK_LEN > 0 {
             let stream = encrypt(&self.words, self.rounds, counter_block(counter));
-            xor_front(bytes, 16 * whole, &stream.to_block());
+            xor_front(bytes, BLOCK_LEN * whole, &stream.to_block());
         }
     }
 }

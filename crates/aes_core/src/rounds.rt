@@ -48,7 +48,8 @@ pub(crate) fn column(a: u32, b: u32, c: u32, d: u32, key: u32) -> u32
         (mixed_column (sbox (byte_at 3 a)) (sbox (byte_at 2 b)) (sbox (byte_at 1 c)) (sbox (byte_at 0 d)))
         (word_bytes key) }
 {
-    mixed_row0(byte3(a)) ^ mixed_row1(byte2(b)) ^ mixed_row2(byte1(c)) ^ mixed_row3(byte0(d)) ^ key
+    // In this order the compiler needs fewer registers.
+    key ^ mixed_row3(byte0(d)) ^ mixed_row2(byte1(c)) ^ mixed_row1(byte2(b)) ^ mixed_row0(byte3(a))
 }
 
 // The same in the last round, which mixes no columns.

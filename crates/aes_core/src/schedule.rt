@@ -1,6 +1,6 @@
 //! The key schedule (FIPS 197, 5.2).
 
-ghost use Rattle.std.specs.Prelude.{◌≡◌, ◌+◌, ◌/◌, ◌≤◌, ◌⊎◌, length};
+ghost use Rattle.std.specs.Prelude.{◌≡◌, ◌/◌, ◌≤◌, ◌⊎◌, length};
 ghost use Rattle.aes_core.specs.KeyExpansion.{added_word, key_expansion, round_count, sub_word, rot_word};
 ghost use Rattle.aes_core.specs.Schedule.{key_bytes, schedule_words};
 ghost use Rattle.aes_core.specs.Words.{word_bytes};

@@ -1,4 +1,4 @@
-use Rattle.std.proofs.Common.{◌≡◌, suc, ◌+◌, ◌++◌, length, bit_xor, get_or, set, take, drop, refl, sym, ap, ◌∙◌, arith, length-drop}
+use Rattle.std.proofs.Common.{◌≡◌, suc, ◌+◌, ◌++◌, bit_xor, get_or, set, take, drop, refl, ap, ◌∙◌, arith, length-drop}
 use Rattle.aes_core.specs.Field.{xor_bytes}
 use Rattle.aes_core.specs.Words.{word_bytes}
 use Rattle.aes_core.proofs.InPlace.{set_four, xor_bytes-front}

@@ -1,4 +1,4 @@
-use Rattle.std.proofs.Common.{◌≡◌, ◌+◌, ◌-◌, ◌*◌, ◌≤◌, length, arith}
+use Rattle.std.proofs.Common.{◌≡◌, ◌+◌, ◌-◌, ◌*◌, arith}
 use Rattle.aes_core.specs.Schedule.{schedule_words}
 use Rattle.aes_core.proofs.RoundSteps.{round_key_of, rounds_last, rounds_next}
 use Rattle.aes_core.proofs.rounds.finish.Goals as goal

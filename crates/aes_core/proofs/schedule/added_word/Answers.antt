@@ -1,6 +1,6 @@
-use Rattle.std.proofs.Common.{[], ◌∷◌, ◌-◌, ◌/◌, ap, ◌∙◌, arith, sym}
-use Rattle.aes_core.specs.Field.{times_power, xor_bytes}
-use Rattle.aes_core.specs.KeyExpansion.{rcon, rot_word, sub_word}
+use Rattle.std.proofs.Common.{[], ◌∷◌, ap, ◌∙◌, arith, sym}
+use Rattle.aes_core.specs.Field.{xor_bytes}
+use Rattle.aes_core.specs.KeyExpansion.{rot_word, sub_word}
 use Rattle.aes_core.specs.Words.{word_bytes}
 use Rattle.aes_core.proofs.Expansion.{added_word_first}
 use Rattle.aes_core.proofs.WordBytes.{word_bytes-xor, word_bytes_of}

@@ -1,4 +1,4 @@
-use Rattle.std.proofs.Common.{◌≡◌, ◌≢◌, [], ◌∷◌, ◌++◌, ◌/◌, ◌%◌, ◌^◌, take, sym, ap, ◌∙◌, arith}
+use Rattle.std.proofs.Common.{◌≡◌, ◌≢◌, [], ◌∷◌, ◌++◌, ◌/◌, ◌%◌, ◌^◌, ap, ◌∙◌, arith}
 use Rattle.std.proofs.lemmas.Nat.{and_mask}
 use Rattle.aes_core.specs.SharedRounds.{two_rounds}
 use Rattle.aes_core.proofs.SharedFacts.{same_front}

@@ -1,4 +1,4 @@
-use Rattle.std.proofs.Common.{◌≡◌, ◌++◌, bit_xor, get_or, ap, ◌∙◌}
+use Rattle.std.proofs.Common.{◌++◌, bit_xor, get_or, ap, ◌∙◌}
 use Rattle.aes_core.specs.Columns.{mixed_part}
 use Rattle.aes_core.specs.Field.{xor_bytes}
 use Rattle.aes_core.specs.SBox.{sbox}
