@@ -1,4 +1,5 @@
--- The counter mode of the cipher, whose counter is the whole block, is GCTR as long as the last 32 bits do not wrap.
+-- The counter mode of the cipher, whose counter is the whole block, is GCTR as long as the last 32
+-- bits do not wrap.
 use Rattle.std.proofs.Common.{◌≡◌, ℕ, zero, suc, ◌+◌, ◌*◌, ◌/◌, ◌%◌, ◌^◌, ◌<◌, ◌≤◌, List, [], ◌∷◌, ◌++◌, length, get_or, take, drop, bit_xor, ap, sym, ◌∙◌, refl, arith}
 use Rattle.std.proofs.lemmas.List.{drop_at, length-append, take_at}
 use Rattle.std.proofs.lemmas.Nat.{from_be_bytes-to_be_bytes_4}

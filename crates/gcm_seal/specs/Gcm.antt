@@ -21,7 +21,8 @@ counter_ciphers key initial zero = []
 counter_ciphers key initial (suc i) =
     counter_ciphers key initial i ++ cipher key (counter_block initial i)
 
--- GCTR: the bytes, each plus its byte of the ciphers of the counter blocks, of which the last may be cut (6.5)
+-- GCTR: the bytes, each plus its byte of the ciphers of the counter blocks, of which the last may
+-- be cut (6.5)
 unfoldable pub gctr : List ℕ → List ℕ → List ℕ → List ℕ
 gctr key initial bytes = xor_bytes bytes (counter_ciphers key initial (div_ceil (length bytes) 16))
 
@@ -41,7 +42,8 @@ cipher_text key nonce plain = gctr key (inc32 (pre_counter_block nonce)) plain
 abbrev pub length_block : List ℕ → List ℕ → List ℕ
 length_block aad text = to_be_bytes w64 (8 * length aad) ++ to_be_bytes w64 (8 * length text)
 
--- S, the hash of the additional data and the cipher text, each padded with zeros, and of their lengths (7.1, steps 4 and 5)
+-- S, the hash of the additional data and the cipher text, each padded with zeros, and of their
+-- lengths (7.1, steps 4 and 5)
 unfoldable pub hash_of : List ℕ → List ℕ → List ℕ → ℕ
 hash_of key aad text =
     ghash (hash_key key) (padded_blocks aad ++ padded_blocks text ++ length_block aad text ∷ [])

@@ -1,4 +1,5 @@
--- What holds of GCM whatever the key: the lengths, and that GCTR undoes itself, so that a cipher text has one plain text.
+-- What holds of GCM whatever the key: the lengths, and that GCTR undoes itself, so that a cipher
+-- text has one plain text.
 use Rattle.std.proofs.Common.{◌≡◌, ℕ, suc, List, [], ◌∷◌, length, bit_xor, ap, sym, ◌∙◌, refl}
 use Rattle.std.specs.Int.{w128, div_ceil, to_be_bytes}
 use lib.Bits.{xor_assoc, xor_self, xor_zero_r}

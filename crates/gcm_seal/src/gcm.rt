@@ -92,7 +92,8 @@ impl Gcm {
     ) -> Result<(), NotSealed>
         requires aad { length aad.now ≤ 65536 }
         requires bytes { length bytes.old ≤ 65536 }
-        ensures opened { IfOk result (λ _. gcm self.now nonce aad.now bytes.new ≡ record { text = bytes.old; tag = tag }) }
+        ensures opened { IfOk result (λ _.
+            gcm self.now nonce aad.now bytes.new ≡ record { text = bytes.old; tag = tag }) }
         ensures refused { IfErr result (λ _. (plain : List ℕ) → length plain ≡ length bytes.old
             → ¬ (gcm self.now nonce aad.now plain ≡ record { text = bytes.old; tag = tag })) }
         ensures unchanged { IfErr result (λ _. bytes.new ≡ bytes.old) }

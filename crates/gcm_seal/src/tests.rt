@@ -1,4 +1,5 @@
-//! Values from outside: McGrew and Viega's test cases 1, 2, 4 and 16 of GCM, and OpenSSL through Python.
+//! Values from outside: McGrew and Viega's test cases 1, 2, 4 and 16 of GCM, and OpenSSL through
+//! Python.
 
 use super::*;
 use std::process::Abort;

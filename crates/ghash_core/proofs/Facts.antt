@@ -1,5 +1,5 @@
--- The definitions at the blocks of a published test case (McGrew and Viega, GCM, test case 2), so that a wrong definition does
--- not check.
+-- The definitions at the blocks of a published test case (McGrew and Viega, GCM, test case 2), so
+-- that a wrong definition does not check.
 use Rattle.std.proofs.Common.{◌≡◌, refl}
 use Rattle.ghash_core.specs.Field.{partial_product, product, times_power}
 

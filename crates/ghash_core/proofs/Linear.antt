@@ -1,4 +1,5 @@
--- The product is linear in the element whose coefficients it reads, and what it is at a power of two.
+-- The product is linear in the element whose coefficients it reads, and what it is at a power of
+-- two.
 use Rattle.std.proofs.Common.{◌≡◌, ℕ, zero, suc, ◌+◌, ◌-◌, ◌*◌, ◌/◌, ◌%◌, ◌^◌, ◌<◌, ◌≤◌, ◌⊎◌, inl, inr, cond, eqb, bit_and, bit_xor, ap, sym, ◌∙◌, refl, arith, add-one}
 use Rattle.std.proofs.lemmas.Nat.{mod-pow-add, xor_comm, pow_pos, pow-add, shl_below, mod_below}
 use Rattle.std.proofs.lemmas.Nat.Bits.{bit_at_xor, bit_at-lt, bit_at-zero, shr_and_one, bit_at-pow_same, bit_at-pow_other}

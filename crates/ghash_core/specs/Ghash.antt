@@ -23,7 +23,8 @@ ghash h blocks = ghash_from h 0 blocks
 abbrev pub filled_up : List ℕ → List ℕ
 filled_up bytes = bytes ++ replicate (16 - length bytes) 0
 
--- the first n blocks of a list of bytes, where a block that has fewer than 16 is filled up with zeros
+-- the first n blocks of a list of bytes, where a block that has fewer than 16 is filled up with
+-- zeros
 unfoldable pub first_blocks : List ℕ → ℕ → List (List ℕ)
 first_blocks bytes zero = []
 first_blocks bytes (suc i) = first_blocks bytes i ++ filled_up (take 16 (drop (16 * i) bytes)) ∷ []

@@ -17,7 +17,8 @@ pub(crate) fn times_x(element: u128) -> u128
     }
 }
 
-/// The product of two elements of GF(2^128) (SP 800-38D, section 6.3), each the number of its block, first byte highest.
+/// The product of two elements of GF(2^128) (SP 800-38D, section 6.3), each the number of its
+/// block, first byte highest.
 pub fn mul(x: u128, y: u128) -> u128
     ensures { result ≡ product x y }
 {

@@ -42,11 +42,12 @@ fn powers_of(element: u128) -> [u128; 128]
     powers
 }
 
-// The element whose powers these are, times four bits: those with the value `index % 16` at the place `index / 16`, counted
-// from the right.
+// The element whose powers these are, times four bits: those with the value `index % 16` at the
+// place `index / 16`, counted from the right.
 fn multiple(powers: &[u128; 128], index: usize) -> u128
     requires { index < 512 }
-    ensures { (y : ℕ) → ArePowers powers.now y → result ≡ product (index % 16 * 2 ^ (4 * (index / 16))) y }
+    ensures { (y : ℕ) → ArePowers powers.now y
+        → result ≡ product (index % 16 * 2 ^ (4 * (index / 16))) y }
 {
     let digit = index % 16;
     let place = 4 * (index / 16);
@@ -59,11 +60,13 @@ fn multiple(powers: &[u128; 128], index: usize) -> u128
     sum
 }
 
-// The key times the 16 places of four bits that `half` has, of which the last is `first_place` places from the right.
+// The key times the 16 places of four bits that `half` has, of which the last is `first_place`
+// places from the right.
 #[inline(always)]
 fn half_product(multiples: &[u128; MULTIPLES], first_place: usize, half: u64) -> u128
     requires { first_place ≤ 16 }
-    ensures { (y : ℕ) → AreMultiples multiples.now y → result ≡ product (half * 2 ^ (4 * first_place)) y }
+    ensures { (y : ℕ) → AreMultiples multiples.now y
+        → result ≡ product (half * 2 ^ (4 * first_place)) y }
 {
     let mut sum = 0;
     'places: for place in 0..16usize {
@@ -117,8 +120,8 @@ impl HashKey {
         half_product(&self.multiples, 0, low) ^ half_product(&self.multiples, 16, high)
     }
 
-    /// GHASH, gone on with from `sum` over the blocks of `bytes`, of which a last short one is padded with zeros (SP 800-38D,
-    /// section 6.4). A `sum` of 0 begins it.
+    /// GHASH, gone on with from `sum` over the blocks of `bytes`, of which a last short one is
+    /// padded with zeros (SP 800-38D, section 6.4). A `sum` of 0 begins it.
     pub fn absorb(&self, sum: u128, bytes: &[u8]) -> u128
         ensures { result ≡ ghash_from self.now sum (padded_blocks bytes.now) }
     {

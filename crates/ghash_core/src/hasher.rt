@@ -27,7 +27,8 @@ impl Ghash {
 
     /// Feeds one block.
     pub fn update(&mut self, block: [u8; 16])
-        ensures { (h : ℕ) (blocks : List (List ℕ)) → Holds self.old h blocks → Holds self.new h (blocks ++ block ∷ []) }
+        ensures { (h : ℕ) (blocks : List (List ℕ)) → Holds self.old h blocks
+            → Holds self.new h (blocks ++ block ∷ []) }
     {
         self.sum = self.key.mul(self.sum ^ u128::from_be_bytes(block));
     }
@@ -40,7 +41,8 @@ impl Ghash {
     }
 }
 
-/// GHASH of the blocks of `bytes`, of which a last short one is padded with zeros (SP 800-38D, section 6.4).
+/// GHASH of the blocks of `bytes`, of which a last short one is padded with zeros (SP 800-38D,
+/// section 6.4).
 pub fn ghash_of(h: u128, bytes: &[u8]) -> u128
     ensures { result ≡ ghash h (padded_blocks bytes.now) }
 {

@@ -1,4 +1,5 @@
-//! GHASH, the universal hash of GCM, over the field GF(2^128) (NIST SP 800-38D, sections 6.3 and 6.4).
+//! GHASH, the universal hash of GCM, over the field GF(2^128) (NIST SP 800-38D, sections 6.3 and
+//! 6.4).
 #![tactic(auto)]
 
 mod field;

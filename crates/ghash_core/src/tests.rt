@@ -1,4 +1,5 @@
-//! Values from outside: McGrew and Viega's test cases 2 and 4 of GCM, and a carry-less product of whole numbers in Python.
+//! Values from outside: McGrew and Viega's test cases 2 and 4 of GCM, and a carry-less product of
+//! whole numbers in Python.
 
 use super::*;
 

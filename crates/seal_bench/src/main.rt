@@ -1,7 +1,8 @@
-//! Measures how many bytes a second are sealed, in packets of 1,400 bytes with 8 bytes of additional data.
+//! Measures how many bytes a second are sealed, in packets of 1,400 bytes with 8 bytes of
+//! additional data.
 //!
-//! With no word it prints the tag of one packet under each cipher. With the word `time` it prints each cipher's bytes a
-//! second in the best of many short rounds.
+//! With no word it prints the tag of one packet under each cipher. With the word `time` it prints
+//! each cipher's bytes a second in the best of many short rounds.
 #![tactic(auto)]
 
 use gcm_seal::{Aead, Gcm128, Gcm256};
