@@ -1,0 +1,3 @@
+mod BigEndian
+mod Counters
+mod Sealing

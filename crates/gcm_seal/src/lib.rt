@@ -1,0 +1,10 @@
+//! Authenticated encryption with additional data: AES in Galois/Counter Mode (NIST SP 800-38D).
+#![tactic(auto)]
+
+mod aead;
+mod gcm;
+#[cfg(test)]
+mod tests;
+
+pub use aead::{Aead, NotSealed};
+pub use gcm::{AnyGcm, Gcm128, Gcm256};

@@ -1,0 +1,4 @@
+mod Blocks
+mod Facts
+mod Linear
+mod Table
