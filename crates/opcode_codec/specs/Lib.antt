@@ -1,0 +1,3 @@
+pub mod FirstByte
+pub mod DataPacket
+pub mod Packet
