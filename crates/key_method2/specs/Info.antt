@@ -1,0 +1,38 @@
+-- The peer info of a key exchange message: lines NAME=value, each ended by a line feed.
+use Rattle.std.specs.Prelude.{ℕ, ◌==◌, nat_eq, Bool, false, List, [], ◌∷◌, length, drop, codes, Option, Some, None, if◌then◌else◌}
+use Rattle.std.specs.Option.{option_or, option_map_or}
+use Rattle.std.specs.List.{slice_split, starts_with, list_any}
+use Rattle.std.specs.Str.{bytes_eq}
+use Rattle.vpn_base.specs.declared.names.Cipher.{Cipher}
+use Rattle.vpn_base.specs.declared.names.Cipher.TheVariants.{Aes128Gcm, Aes256Gcm}
+
+-- what stands behind an equals sign
+abbrev pub behind_equals : List ℕ → Option (List ℕ)
+behind_equals [] = None
+behind_equals (byte ∷ value) = if byte == 61 then Some value else None
+
+-- what stands behind NAME= in a line
+abbrev pub value_in : List ℕ → List ℕ → Option (List ℕ)
+value_in name line = if starts_with nat_eq line name then behind_equals (drop (length name) line) else None
+
+-- the value in the first of these lines that has the name
+abbrev pub first_value : List ℕ → List (List ℕ) → Option (List ℕ)
+first_value name [] = None
+first_value name (line ∷ lines) = option_or (value_in name line) (first_value name lines)
+
+-- the value of a name in a peer info; what stands behind the last line feed is a line too
+unfoldable pub value_of : List ℕ → List ℕ → Option (List ℕ)
+value_of info name = first_value name (slice_split (λ byte. byte == 10) info)
+
+-- the name of a cipher in a list of them
+abbrev pub name_of : Cipher → List ℕ
+name_of Aes128Gcm = codes "AES-128-GCM"
+name_of Aes256Gcm = codes "AES-256-GCM"
+
+-- whether this is one of the names, joined by colons
+abbrev pub is_named : List ℕ → List ℕ → Bool
+is_named name names = list_any (λ piece. bytes_eq piece name) (slice_split (λ byte. byte == 58) names)
+
+-- whether the peer info offers a cipher: IV_CIPHERS names it
+unfoldable pub offers : List ℕ → Cipher → Bool
+offers info cipher = option_map_or (is_named (name_of cipher)) (value_of info (codes "IV_CIPHERS")) false

@@ -1,0 +1,76 @@
+//! The peer info: lines NAME=value, each ended by a line feed.
+
+ghost use Rattle.std.specs.Prelude.{◌≡◌, find};
+ghost use Rattle.std.specs.Option.{option_copied};
+ghost use Rattle.key_method2.specs.Info.{value_in, value_of, name_of, is_named, offers};
+
+use vpn_base::{Cipher, split_once};
+
+// The value of a line that begins with the name and an equals sign.
+fn value_in_line<'a>(line: &'a [u8], name: &[u8]) -> Option<&'a [u8]>
+    ensures { option_copied result ≡ value_in name.now line.now }
+{
+    if !line.starts_with(name) {
+        return None;
+    }
+    match &line[name.len()..] {
+        [b'=', value @ ..] => Some(value),
+        _ => None,
+    }
+}
+
+/// The value in the first line `NAME=value` that has the name; None exactly where no line has it.
+/// Lines are ended by line feeds; what stands behind the last one is a line too.
+#[tactic(auto, unfolding(crate::specs::Info::value_of))]
+pub fn info_value<'a>(info: &'a [u8], name: &[u8]) -> Option<&'a [u8]>
+    ensures { option_copied result ≡ value_of info.now name.now }
+{
+    let mut rest = info;
+    while let Some((line, after)) = split_once(rest, b'\n') {
+        let value = value_in_line(line, name);
+        if value.is_some() {
+            return value;
+        }
+        rest = after;
+    }
+    value_in_line(rest, name)
+}
+
+// The name of a cipher in a list of them.
+fn cipher_name(cipher: Cipher) -> &'static [u8]
+    ensures { result.now ≡ name_of cipher }
+{
+    match cipher {
+        Cipher::Aes128Gcm => b"AES-128-GCM",
+        Cipher::Aes256Gcm => b"AES-256-GCM",
+    }
+}
+
+// Whether a name is one of those that are joined by colons.
+fn is_one_of(names: &[u8], name: &[u8]) -> bool
+    ensures { result ≡ is_named name.now names.now }
+{
+    let mut rest = names;
+    while let Some((piece, after)) = split_once(rest, b':') {
+        if piece == name {
+            return true;
+        }
+        rest = after;
+    }
+    rest == name
+}
+
+/// The first of our ciphers that the peer info names in the colon-joined list `IV_CIPHERS`; None exactly
+/// where it names none of them.
+#[tactic(auto, unfolding(crate::specs::Info::offers))]
+pub fn choose_cipher(ours: &[Cipher], info: &[u8]) -> Option<Cipher>
+    ensures { result ≡ find (offers info.now) ours.now }
+{
+    match info_value(info, b"IV_CIPHERS") {
+        None => None,
+        Some(names) => ours
+            .iter()
+            .copied()
+            .find(|cipher| is_one_of(names, cipher_name(*cipher))),
+    }
+}
