@@ -5,7 +5,7 @@ use Rattle.std.proofs.lemmas.Slice.{drop-append-drop}
 use borrow.Rule.Slice.PartMut.{put_mid}
 use Rattle.gcm_seal.specs.Sealed.{Sealed}
 use Rattle.opcode_codec.specs.DataPacket.{data_head, data_packet}
-use Rattle.sealed_packet.specs.SealedPacket.{Sealing, form, nonce, packet}
+use Rattle.sealed_packet.specs.SealedPacket.{Sealing, nonce, packet}
 
 regrouped : (a b c d : List ℕ) → a ++ (b ++ (c ++ d)) ≡ (a ++ b ++ c) ++ d
 regrouped a b c d = sym (simp append_assoc)

@@ -3,5 +3,7 @@
 
 mod head;
 mod packets;
+#[cfg(test)]
+mod tests;
 
-pub use packets::{open_packet, opens_once, seal_packet};
+pub use packets::{open_packet, opens_once, opens_what_was_sealed, seal_packet};

@@ -1,7 +1,7 @@
 //! Sealing and opening.
 
 ghost use Rattle.std.specs.Prelude.{◌≡◌, ℕ, ◌+◌, ◌^◌, ◌<◌, ◌≤◌, List, length, take, drop, IfOk, IfErr};
-ghost use Rattle.sealed_packet.specs.SealedPacket.{Opens, packet};
+ghost use Rattle.sealed_packet.specs.SealedPacket.{Opens, packet, peer_in};
 
 use crate::head::{nonce_of, read_head};
 use gcm_seal::{Aead, NotSealed};
@@ -73,5 +73,13 @@ pub fn opens_once<C: Aead>(cipher: &C)
         → Opens (C.sealed cipher.now) implicit kid datagram i p
         → Opens (C.sealed cipher.now) implicit kid datagram j q
         → (i ≡ j) × (p ≡ q) }
+{
+}
+
+/// A packet that was sealed opens, to its packet id and its inner packet, and has its peer id.
+pub fn opens_what_was_sealed<C: Aead>(cipher: &C)
+    ensures { (implicit : List ℕ) (kid peer id : ℕ) (inner : List ℕ) → peer < 2 ^ 24 → id < 2 ^ 32
+        → Opens (C.sealed cipher.now) implicit kid (packet (C.sealed cipher.now) implicit kid peer id inner) id inner
+        × (peer_in (packet (C.sealed cipher.now) implicit kid peer id inner) ≡ peer) }
 {
 }

@@ -1,10 +1,11 @@
-use Rattle.std.proofs.Common.{ℕ, List, ◌≡◌, ◌-◌, length, drop, take, refl, sym, ap, subst, ◌∙◌}
+use Rattle.std.proofs.Common.{ℕ, List, ◌-◌, length, drop, refl, sym, ap, subst, ◌∙◌}
 use Rattle.std.proofs.lemmas.List.{take_rest}
 use Rattle.gcm_seal.specs.Sealed.{Sealed}
 use Rattle.sealed_packet.specs.Head.{data_form_of}
 use Rattle.sealed_packet.specs.SealedPacket.{Opens}
-use Rattle.sealed_packet.proofs.Opening.{authentic, form_opened, is_form_opened, only_authentic, opened_part, readable_opened, same_sealed, unchanged_part}
-use Rattle.sealed_packet.proofs.Parts.{readable}
+use Rattle.sealed_packet.specs.Laws.{form_opened, is_form_opened, only_authentic, readable_opened}
+use Rattle.sealed_packet.proofs.Opening.{authentic, opened_part, same_sealed, unchanged_part}
+use Rattle.sealed_packet.specs.Parts.{readable}
 use Rattle.sealed_packet.proofs.packets.open_packet.Goals as goal
 
 pub returns-in_default-clause-refused : goal.returns-in_default-clause-refused

@@ -1,6 +1,5 @@
 use Rattle.std.proofs.Common.{ℕ, List, ◌≡◌, ◌+◌, ◌-◌, ◌++◌, length, drop, take, sym, ap, ◌∙◌, arith, rules}
 use Rattle.std.proofs.lemmas.List.{take_at, drop_at}
-use Rattle.gcm_seal.specs.Sealed.{Sealed}
 use Rattle.sealed_packet.proofs.Sealing.{is_packet, parts_size, placed}
 use Rattle.sealed_packet.proofs.packets.seal_packet.Goals as goal
 
