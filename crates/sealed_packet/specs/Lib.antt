@@ -1,0 +1,4 @@
+pub mod Head
+pub mod SealedPacket
+pub mod Parts
+pub mod Laws

@@ -1,0 +1,9 @@
+//! A data packet of the OpenVPN wire protocol, sealed and opened under any authenticated encryption.
+#![tactic(auto)]
+
+mod head;
+mod packets;
+#[cfg(test)]
+mod tests;
+
+pub use packets::{open_packet, opens_once, opens_what_was_sealed, seal_packet};
