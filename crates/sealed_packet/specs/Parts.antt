@@ -1,7 +1,7 @@
 -- The parts of a data packet are read back from it.
-use Rattle.std.proofs.Common.{◌≡◌, ℕ, ◌^◌, ◌<◌, List, ◌∷◌, length, take, drop, subst, ap, ◌∙◌, sym, refl, arith}
+use Rattle.std.proofs.Common.{◌≡◌, ℕ, ◌^◌, ◌<◌, ◌≤◌, List, ◌∷◌, length, take, drop, subst, ap, ◌∙◌, sym, refl, arith}
 use Rattle.std.specs.Int.{w32, from_be_bytes}
-use Rattle.std.proofs.lemmas.List.{take_at, drop_at}
+use Rattle.std.proofs.lemmas.List.{take_at, drop_at, length-append}
 use Rattle.std.proofs.lemmas.Nat.{from_be_bytes-to_be_bytes_4}
 use Rattle.opcode_codec.specs.DataPacket.{DataForm, IsData, data_head, data_packet, three_bytes}
 use Rattle.sealed_packet.specs.SealedPacket.{peer_in}
@@ -36,6 +36,11 @@ tag_read f fits = take_at f.tag f.sealed 16 fits.tag
 pub text_read : (f : DataForm) → IsReadable f → drop 24 (data_packet f) ≡ f.sealed
 unfolding data_packet data_head
 text_read f fits = drop_at f.tag f.sealed 16 fits.tag
+
+-- a packet has 24 bytes and the sealed ones
+pub length_read : (f : DataForm) (datagram : List ℕ) → IsReadable f → datagram ≡ data_packet f → 24 ≤ length datagram
+unfolding data_packet data_head
+length_read f datagram fits is = omega (arith, ap length is, length-append f.tag f.sealed, fits.tag)
 
 same_form : (f : DataForm) (kid : ℕ) (text : List ℕ) → f.kid ≡ kid → f.sealed ≡ text →
     f ≡ record { kid = kid; peer = f.peer; id = f.id; tag = f.tag; sealed = text }

@@ -1,6 +1,6 @@
 //! What of a data packet is not sealed.
 
-ghost use Rattle.std.specs.Prelude.{◌≡◌, ◌^◌, ◌≤◌, ◌<◌, ◌++◌, length, take, drop, MatchOption};
+ghost use Rattle.std.specs.Prelude.{◌≡◌, ◌^◌, ◌≤◌, ◌<◌, ◌++◌, length, take, drop, MatchOption, IfSome};
 ghost use Rattle.std.specs.Int.{w32, to_be_bytes};
 ghost use Rattle.opcode_codec.specs.DataPacket.{DataForm, IsData, data_packet};
 ghost use Rattle.sealed_packet.specs.Head.{data_form_of};
@@ -18,9 +18,10 @@ pub(crate) struct Head {
 
 /// The head of a data packet with this key id.
 pub(crate) fn read_head(datagram: &[u8], kid: u8) -> Option<Head>
-    ensures { MatchOption result
+    ensures exact { MatchOption result
         ((f : DataForm) → IsData f → f.kid ≡ kid → ¬ (datagram.now ≡ data_packet f))
         (λ h. IsData (data_form_of kid h (drop 24 datagram.now)) × (datagram.now ≡ data_packet (data_form_of kid h (drop 24 datagram.now)))) }
+    ensures long { IfSome result (λ _. 24 ≤ length datagram.now) }
 {
     match read_packet(datagram) {
         Ok(Packet::Inner(view)) if view.kid == kid => Some(Head {

@@ -13,7 +13,7 @@ returns-in_default-clause-refused g c = λ id inner opens.
     let sealed = g.C.Aead.sealed c.args.cipher.now in
     let datagram = c.args.datagram.now in
     let r = readable_opened sealed c.args.implicit c.args.kid id datagram inner (g.met.C.Aead.lengths c.args.cipher.now) opens in
-    c.in_default.ensures (form_opened sealed c.args.implicit c.args.kid datagram id inner)
+    c.in_default.ensures.exact (form_opened sealed c.args.implicit c.args.kid datagram id inner)
     (record { kid = c.requires.kid; peer = r.peer; id = r.id; tag = r.tag }) refl
     (is_form_opened sealed c.args.implicit c.args.kid id datagram inner opens)
 
@@ -25,9 +25,9 @@ returns-in-Ok-clause-opened g c =
     let inner = c.unseal.new.bytes in
     let opened = c.in-Ok.ensures.opened ∙ ap (λ (t : List ℕ). record { text = t; tag = c.in-Some.head.tag }) (take_rest datagram 24) in
     let opens = authentic sealed c.args.implicit f datagram inner c.nonce_of-nonce.result c.write_data_head-additional.result
-    c.in-Some.ensures.0 c.in-Some.ensures.1 c.nonce_of-nonce.ensures c.write_data_head-additional.ensures opened in
+    c.in-Some.ensures.exact.0 c.in-Some.ensures.exact.1 c.nonce_of-nonce.ensures c.write_data_head-additional.ensures opened in
     subst (λ (t : List ℕ). Opens sealed c.args.implicit c.args.kid datagram c.in-Some.head.id t)
-    (sym (opened_part datagram inner (length datagram - 24) c.requires.long refl)) opens
+    (sym (opened_part datagram inner (length datagram - 24) c.in-Some.ensures.long refl)) opens
 
 pub returns-in-Err-clause-refused : goal.returns-in-Err-clause-refused
 returns-in-Err-clause-refused g c = λ id inner opens.
@@ -37,7 +37,7 @@ returns-in-Err-clause-refused g c = λ id inner opens.
     let f = data_form_of c.args.kid c.in-Some.head (drop 24 datagram) in
     let n = c.nonce_of-nonce.result in
     let aad = c.write_data_head-additional.result in
-    let only = only_authentic sealed c.args.implicit f datagram inner id lengths (readable f c.in-Some.ensures.0) c.in-Some.ensures.1 opens in
+    let only = only_authentic sealed c.args.implicit f datagram inner id lengths (readable f c.in-Some.ensures.exact.0) c.in-Some.ensures.exact.1 opens in
     let authentic =
     same_sealed sealed c.args.implicit c.args.kid c.in-Some.head.peer c.in-Some.head.id inner n aad c.nonce_of-nonce.ensures c.write_data_head-additional.ensures ∙ only.1 in
     c.in-Err.ensures.refused inner
@@ -46,5 +46,5 @@ returns-in-Err-clause-refused g c = λ id inner opens.
 
 pub returns-in-Err-clause-unchanged : goal.returns-in-Err-clause-unchanged
 returns-in-Err-clause-unchanged g c =
-    unchanged_part c.args.datagram.now c.unseal.new.bytes (length c.args.datagram.now - 24) refl c.requires.long
+    unchanged_part c.args.datagram.now c.unseal.new.bytes (length c.args.datagram.now - 24) refl c.in-Some.ensures.long
     (c.in-Err.ensures.unchanged ∙ take_rest c.args.datagram.now 24)
