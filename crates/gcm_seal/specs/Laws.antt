@@ -1,23 +1,11 @@
 -- What holds of GCM whatever the key: the lengths, and that GCTR undoes itself, so that a cipher
 -- text has one plain text.
-use Rattle.std.proofs.Common.{◌≡◌, ℕ, suc, List, [], ◌∷◌, length, bit_xor, ap, sym, ◌∙◌, refl}
+use Rattle.std.proofs.Common.{◌≡◌, ℕ, List, length, ap, sym, ◌∙◌}
 use Rattle.std.specs.Int.{w128, div_ceil, to_be_bytes}
-use lib.Bits.{xor_assoc, xor_self, xor_zero_r}
 use Rattle.aes_core.specs.Field.{xor_bytes}
+use Rattle.aes_core.proofs.InPlace.{length-xor_bytes, xor_bytes_twice}
 use Rattle.gcm_seal.specs.Gcm.{cipher_text, counter_ciphers, gcm, gctr, hash_of, inc32, pre_counter_block, tag_of}
 use Rattle.gcm_seal.specs.Sealed.{Sealed}
-
-length-xor_bytes : (xs ys : List ℕ) → length (xor_bytes xs ys) ≡ length xs
-length-xor_bytes [] ys = refl
-length-xor_bytes (x ∷ xs) [] = refl
-length-xor_bytes (x ∷ xs) (y ∷ ys) = ap suc (length-xor_bytes xs ys)
-
-xor_bytes_twice : (xs ys : List ℕ) → xor_bytes (xor_bytes xs ys) ys ≡ xs
-xor_bytes_twice [] ys = refl
-xor_bytes_twice (x ∷ xs) [] = refl
-xor_bytes_twice (x ∷ xs) (y ∷ ys) =
-    let first = xor_assoc x y y ∙ ap (bit_xor x) (xor_self y) ∙ xor_zero_r x in
-    ap (λ (z : ℕ). z ∷ xor_bytes (xor_bytes xs ys) ys) first ∙ ap (λ (rest : List ℕ). x ∷ rest) (xor_bytes_twice xs ys)
 
 pub length-gctr : (key initial bytes : List ℕ) → length (gctr key initial bytes) ≡ length bytes
 unfolding gctr
