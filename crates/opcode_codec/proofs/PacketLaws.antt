@@ -146,7 +146,7 @@ same_packet : {h k : ℕ} {p q i j t u : List ℕ} → h ≡ k → p ≡ q → i
 same_packet eh ep ei et = cc
 
 data_fits : (first a b c : ℕ) (rest : List ℕ) → IsBytes (first ∷ a ∷ b ∷ c ∷ rest) → opcode_of first ≡ Some DataV2 →
-    24 ≤ length (first ∷ a ∷ b ∷ c ∷ rest) → IsData (data_of first (a ∷ b ∷ c ∷ rest)) × (first ∷ a ∷ b ∷ c ∷ rest ≡ data_packet (data_of first (a ∷ b ∷ c ∷ rest)))
+    24 ≤ length (first ∷ a ∷ b ∷ c ∷ rest) → IsData (data_of (first % 8) (a ∷ b ∷ c ∷ rest)) × (first ∷ a ∷ b ∷ c ∷ rest ≡ data_packet (data_of (first % 8) (a ∷ b ∷ c ∷ rest)))
 unfolding data_packet data_head
 data_fits first a b c rest bytes is long =
     let behind : IsBytes rest = IsBytes-drop 4 (first ∷ a ∷ b ∷ c ∷ rest) bytes in
@@ -160,7 +160,7 @@ data_fits first a b c rest bytes is long =
     )
 
 data_found : (f : DataForm) (first : ℕ) (rest : List ℕ) → IsBytes (first ∷ rest) → opcode_of first ≡ Some DataV2 →
-    24 ≤ length (first ∷ rest) → data_of first rest ≡ f → IsData f × (first ∷ rest ≡ data_packet f)
+    24 ≤ length (first ∷ rest) → data_of (first % 8) rest ≡ f → IsData f × (first ∷ rest ≡ data_packet f)
 data_found f first [] bytes is long form = absurd (omega arith)
 data_found f first (a ∷ []) bytes is long form = absurd (omega arith)
 data_found f first (a ∷ b ∷ []) bytes is long form = absurd (omega arith)

@@ -33,10 +33,10 @@ data_head kid peer id = (72 + kid) ∷ three_bytes peer ++ to_be_bytes w32 id
 unfoldable pub data_packet : DataForm → List ℕ
 data_packet f = data_head f.kid f.peer f.id ++ f.tag ++ f.sealed
 
--- the fields of a data packet: its first byte, and the bytes behind it
+-- the fields of a data packet: its key id, and the bytes behind the first
 abbrev pub data_of : ℕ → List ℕ → DataForm
-data_of first rest = record {
-  kid = first % 8;
+data_of kid rest = record {
+  kid = kid;
   peer = from_be_bytes w32 (0 ∷ take 3 rest);
   id = from_be_bytes w32 (take 4 (drop 3 rest));
   tag = take 16 (drop 7 rest);

@@ -64,7 +64,7 @@ shortest op = 49
 
 -- a packet of this opcode, by its first byte and the bytes behind it
 abbrev pub form_behind : Opcode → ℕ → List ℕ → PacketForm
-form_behind DataV2 first rest = Inner (data_of first rest)
+form_behind DataV2 first rest = Inner (data_of (first % 8) rest)
 form_behind op first rest = Wrapped op (first % 8) (record { 0 = take 8 rest })
 
 abbrev pub packet_with : Option Opcode → ℕ → List ℕ → Result PacketForm Malformed

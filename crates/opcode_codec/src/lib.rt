@@ -9,3 +9,6 @@ mod packets;
 pub use control::{ControlView, read_control, write_control};
 pub use opcodes::Opcode;
 pub use packets::{DataView, Packet, read_packet, write_data_head};
+
+#[cfg(test)]
+mod tests;

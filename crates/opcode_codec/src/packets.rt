@@ -46,12 +46,12 @@ const SHORTEST_WRAPPED: usize = 49;
 /// The fewest bytes of a data packet: first byte, peer id, packet id and tag.
 const SHORTEST_DATA: usize = 24;
 
-fn read_data(first: u8, d: &[u8]) -> DataView<'_>
+fn read_data(kid: u8, d: &[u8]) -> DataView<'_>
     requires { 24 ≤ length d.now }
-    ensures { data_form result ≡ data_of first (drop 1 d.now) }
+    ensures { data_form result ≡ data_of kid (drop 1 d.now) }
 {
     DataView {
-        kid: first % 8,
+        kid,
         peer: u32::from_be_bytes([0, d[1], d[2], d[3]]),
         id: number_at(d, 4),
         tag: array_of(&d[8..24]),
@@ -67,13 +67,14 @@ fn read_any(d: &[u8]) -> Result<Packet<'_>, Malformed>
         return Err(Malformed::Empty);
     };
     let first = *first;
+    let kid = first % 8;
     match opcode_of(first) {
         None => Err(Malformed::Opcode { first }),
         Some(Opcode::DataV2) => {
             if d.len() < SHORTEST_DATA {
                 return Err(Malformed::Short);
             }
-            Ok(Packet::Inner(read_data(first, d)))
+            Ok(Packet::Inner(read_data(kid, d)))
         }
         Some(op) => {
             if d.len() < SHORTEST_WRAPPED {
@@ -81,7 +82,7 @@ fn read_any(d: &[u8]) -> Result<Packet<'_>, Malformed>
             }
             Ok(Packet::Wrapped {
                 op,
-                kid: first % 8,
+                kid,
                 sid: Sid(array_of(&d[1..9])),
             })
         }
