@@ -1,2 +1,4 @@
-pub mod Headers
+pub mod HeaderParts
 pub mod Datagrams
+pub mod FirstLine
+pub mod KeyLines

@@ -3,7 +3,7 @@
 ghost use Rattle.std.specs.Prelude.{◌≡◌, ◌≤◌, ◌++◌, length, take, drop};
 ghost use Rattle.tls_crypt.specs.Wrapped.{Keys, cipher_text, keys_of, tag as tag_of};
 
-use crate::header::array_at;
+use crate::bytes::array_at;
 use aes_core::AesKey;
 use hmac_kit::HmacSha256;
 use std::marker::Model;

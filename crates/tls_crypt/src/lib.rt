@@ -1,6 +1,7 @@
 //! Control packets wrapped under a static key, so that nobody without it can read or make one.
 #![tactic(auto)]
 
+mod bytes;
 mod half;
 mod header;
 mod static_key;

@@ -5,8 +5,9 @@ ghost use Rattle.tls_crypt.specs.Wrapped.{half, keys_of, read_half, written_half
 ghost use Rattle.tls_crypt.specs.Packets.{Directions};
 ghost use Rattle.tls_crypt.specs.Laws.{one_packet};
 
+use crate::bytes::{array_at, put};
 use crate::half::{Half, OVERHEAD};
-use crate::header::{HEADER_LEN, Header, array_at, header_at, header_of, put};
+use crate::header::{HEADER_LEN, Header, header_at, header_of};
 use crate::static_key::StaticKey;
 use crate::wrapping::{Unwrap, Wrap};
 use std::marker::Model;

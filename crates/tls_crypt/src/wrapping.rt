@@ -1,6 +1,6 @@
 //! Wrapping of control packets, whatever the keys.
 
-ghost use Rattle.std.specs.Prelude.{◌≡◌, ◌≤◌, ◌<◌, ◌+◌, ◌↔◌, ℕ, List, length, take, drop, IfOk, IsErrOf, OnErr};
+ghost use Rattle.std.specs.Prelude.{◌≡◌, ◌≤◌, ◌<◌, ◌+◌, ◌↔◌, ℕ, List, length, take, drop, IfOk, IsErrOf, OnOk, OnErr};
 ghost use Rattle.tls_crypt.specs.Packets.{IsOneToOne, IsWrappedByNone};
 
 use crate::half::OVERHEAD;
@@ -58,7 +58,30 @@ pub trait Wrap {
             datagram.old ≡ unwrapped self.now h.first h.sid.0 h.id h.time (drop 49 datagram.new)) }
         ensures refused { IsErrOf result Unwrap.NotWrapped → IsWrappedByNone (unwrapped self.now) datagram.old }
         ensures short { IsErrOf result Unwrap.Short ↔ (length datagram.old < 49) }
+        ensures long { OnOk result (49 ≤ length datagram.old) }
         ensures unchanged { OnErr result (datagram.new ≡ datagram.old) };
+
+    /// Unwraps a datagram in place, and answers the packet, whose plain text stays in the datagram.
+    ///
+    /// `Short` comes exactly below 49 bytes, and `NotWrapped` exactly where no packet wraps to the
+    /// datagram at the other end. The datagram is then as `unwrap_in_place` leaves it.
+    final fn unwrap<'d>(&self, datagram: &'d mut [u8]) -> Result<Opened<'d>, Unwrap>
+        ensures opened { IfOk result (λ o.
+            datagram.old ≡ unwrapped self.now o.first o.sid.0 o.id o.time o.plain.now) }
+        ensures refused { IsErrOf result Unwrap.NotWrapped → IsWrappedByNone (unwrapped self.now) datagram.old }
+        ensures short { IsErrOf result Unwrap.Short ↔ (length datagram.old < 49) }
+    {
+        match self.unwrap_in_place(datagram) {
+            Ok(Header { first, sid, id, time }) => Ok(Opened {
+                first,
+                sid,
+                id,
+                time,
+                plain: &datagram[OVERHEAD..],
+            }),
+            Err(fault) => Err(fault),
+        }
+    }
 
     /// No two packets wrap to one datagram at this end.
     ghost wrapped_once: { (w : Self) → IsOneToOne (wrapped w) };

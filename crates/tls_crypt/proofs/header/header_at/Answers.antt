@@ -1,5 +1,5 @@
 use Rattle.std.proofs.Common.{rules, ◌≡◌, ℕ, ◌<◌, length, get_or}
-use Rattle.tls_crypt.proofs.Headers.{header_read}
+use Rattle.tls_crypt.proofs.HeaderParts.{header_read}
 use Rattle.tls_crypt.proofs.header.header_at.Goals as goal
 
 pub returns : goal.returns

@@ -1,5 +1,5 @@
 use Rattle.std.proofs.Common.{rules, ◌≡◌, length}
-use Rattle.tls_crypt.proofs.Headers.{header_written}
+use Rattle.tls_crypt.proofs.HeaderParts.{header_written}
 use Rattle.tls_crypt.proofs.header.header_of.Goals as goal
 
 pub returns : goal.returns
