@@ -1,0 +1,4 @@
+pub mod HeaderParts
+pub mod Datagrams
+pub mod FirstLine
+pub mod KeyLines

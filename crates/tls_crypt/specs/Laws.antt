@@ -1,0 +1,122 @@
+-- What holds of wrapped control packets whatever the keys: their lengths, and that each has one packet.
+use Rattle.std.proofs.Common.{◌≡◌, ℕ, suc, ◌+◌, List, [], ◌∷◌, ◌++◌, length, get_or, take, drop, bit_xor, ap, sym, ◌∙◌, refl}
+use Rattle.std.proofs.lemmas.List.{append_assoc, length-append, take_at, drop_at}
+use Rattle.std.proofs.lemmas.Nat.{from_be_bytes-to_be_bytes_4}
+use Rattle.std.specs.Int.{w32, to_be_bytes, from_be_bytes}
+use Rattle.sha2.proofs.Facts256.{length-sha256}
+use lib.Bits.{xor_assoc, xor_self, xor_zero_r}
+use Rattle.aes_core.specs.Field.{xor_bytes}
+use Rattle.aes_core.specs.CounterMode.{key_stream}
+use Rattle.hmac_kit.specs.Hmac.{hmac}
+use Rattle.tls_crypt.specs.Wrapped.{Keys, header, tag, cipher_text, datagram, wrapped}
+use Rattle.tls_crypt.specs.Packets.{Packet, InRange, IsOneToOne}
+
+length-xor_bytes : (xs ys : List ℕ) → length (xor_bytes xs ys) ≡ length xs
+length-xor_bytes [] ys = refl
+length-xor_bytes (x ∷ xs) [] = refl
+length-xor_bytes (x ∷ xs) (y ∷ ys) = ap suc (length-xor_bytes xs ys)
+
+xor_bytes_twice : (xs ys : List ℕ) → xor_bytes (xor_bytes xs ys) ys ≡ xs
+xor_bytes_twice [] ys = refl
+xor_bytes_twice (x ∷ xs) [] = refl
+xor_bytes_twice (x ∷ xs) (y ∷ ys) =
+    let first = xor_assoc x y y ∙ ap (bit_xor x) (xor_self y) ∙ xor_zero_r x in
+    ap (λ (z : ℕ). z ∷ xor_bytes (xor_bytes xs ys) ys) first ∙ ap (λ (rest : List ℕ). x ∷ rest) (xor_bytes_twice xs ys)
+
+-- a header has 17 bytes
+pub length-header : (first : ℕ) (sid : List ℕ) (id time : ℕ) → length sid ≡ 8 → length (header first sid id time) ≡ 17
+unfolding header
+length-header first sid id time size =
+    ap suc (length-append (sid ++ to_be_bytes w32 id) (to_be_bytes w32 time) ∙ ap (λ (n : ℕ). n + 4) (length-append sid (to_be_bytes w32 id) ∙ ap (λ (n : ℕ). n + 4) size))
+
+-- a tag has 32 bytes
+pub length-tag : (keys : Keys) (front plain : List ℕ) → length (tag keys front plain) ≡ 32
+unfolding tag hmac
+length-tag keys front plain = length-sha256 _
+
+-- a cipher text is as long as its plain text
+pub length-cipher_text : (keys : Keys) (mac plain : List ℕ) → length (cipher_text keys mac plain) ≡ length plain
+unfolding cipher_text
+length-cipher_text keys mac plain = length-xor_bytes plain (key_stream keys.cipher (take 16 mac) (length plain))
+
+-- enciphering twice gives the bytes back
+pub cipher_text_twice : (keys : Keys) (mac plain : List ℕ) → cipher_text keys mac (cipher_text keys mac plain) ≡ plain
+unfolding cipher_text
+cipher_text_twice keys mac plain =
+    let stream = key_stream keys.cipher (take 16 mac) in
+    ap (λ (n : ℕ). xor_bytes (xor_bytes plain (stream (length plain))) (stream n)) (length-xor_bytes plain (stream (length plain)))
+    ∙ xor_bytes_twice plain (stream (length plain))
+
+-- the parts of a datagram
+pub datagram_front : (keys : Keys) (front plain : List ℕ) → length front ≡ 17 → take 17 (datagram keys front plain) ≡ front
+unfolding datagram
+datagram_front keys front plain size =
+    ap (take 17) (append_assoc front (tag keys front plain) (cipher_text keys (tag keys front plain) plain)) ∙ take_at front _ 17 size
+
+pub datagram_behind : (keys : Keys) (front plain : List ℕ) → length front ≡ 17 → drop 17 (datagram keys front plain) ≡ tag keys front plain ++ cipher_text keys (tag keys front plain) plain
+unfolding datagram
+datagram_behind keys front plain size =
+    ap (drop 17) (append_assoc front (tag keys front plain) (cipher_text keys (tag keys front plain) plain)) ∙ drop_at front _ 17 size
+
+pub datagram_tag : (keys : Keys) (front plain : List ℕ) → length front ≡ 17 → take 32 (drop 17 (datagram keys front plain)) ≡ tag keys front plain
+datagram_tag keys front plain size =
+    ap (take 32) (datagram_behind keys front plain size) ∙ take_at (tag keys front plain) _ 32 (length-tag keys front plain)
+
+pub datagram_text : (keys : Keys) (front plain : List ℕ) → length front ≡ 17 → drop 49 (datagram keys front plain) ≡ cipher_text keys (tag keys front plain) plain
+unfolding datagram
+datagram_text keys front plain size =
+    drop_at (front ++ tag keys front plain) _ 49 (length-append front (tag keys front plain) ∙ ap (λ (n : ℕ). n + length (tag keys front plain)) size ∙ ap (λ (n : ℕ). 17 + n) (length-tag keys front plain))
+
+-- the plain text of a datagram: its cipher text, enciphered once more under its tag
+pub datagram_plain : (keys : Keys) (front plain : List ℕ) → length front ≡ 17 → cipher_text keys (take 32 (drop 17 (datagram keys front plain))) (drop 49 (datagram keys front plain)) ≡ plain
+datagram_plain keys front plain size =
+    ap (λ (mac : List ℕ). cipher_text keys mac (drop 49 (datagram keys front plain))) (datagram_tag keys front plain size)
+    ∙ ap (cipher_text keys (tag keys front plain)) (datagram_text keys front plain size)
+    ∙ cipher_text_twice keys (tag keys front plain) plain
+
+-- the parts of a header
+header_sid : (first : ℕ) (sid : List ℕ) (id time : ℕ) → length sid ≡ 8 → take 8 (drop 1 (header first sid id time)) ≡ sid
+unfolding header
+header_sid first sid id time size =
+    ap (take 8) (append_assoc sid (to_be_bytes w32 id) (to_be_bytes w32 time)) ∙ take_at sid _ 8 size
+
+header_id : (first : ℕ) (sid : List ℕ) (id time : ℕ) → length sid ≡ 8 → take 4 (drop 9 (header first sid id time)) ≡ to_be_bytes w32 id
+unfolding header
+header_id first sid id time size =
+    ap (λ (l : List ℕ). take 4 (drop 8 l)) (append_assoc sid (to_be_bytes w32 id) (to_be_bytes w32 time)) ∙ ap (take 4) (drop_at sid (to_be_bytes w32 id ++ to_be_bytes w32 time) 8 size)
+
+header_time : (first : ℕ) (sid : List ℕ) (id time : ℕ) → length sid ≡ 8 → drop 13 (header first sid id time) ≡ to_be_bytes w32 time
+unfolding header
+header_time first sid id time size =
+    drop_at (sid ++ to_be_bytes w32 id) (to_be_bytes w32 time) 12 (length-append sid (to_be_bytes w32 id) ∙ ap (λ (n : ℕ). n + 4) size)
+
+header_first : (first : ℕ) (sid : List ℕ) (id time : ℕ) → get_or (header first sid id time) 0 0 ≡ first
+unfolding header
+header_first first sid id time = refl
+
+-- no two packets wrap to one datagram
+pub one_packet : (keys : Keys) → IsOneToOne (wrapped keys)
+one_packet keys p q p_fits q_fits same =
+    let p_front = header p.first p.sid p.id p.time in
+    let q_front = header q.first q.sid q.id q.time in
+    let p_size = length-header p.first p.sid p.id p.time p_fits.sid in
+    let q_size = length-header q.first q.sid q.id q.time q_fits.sid in
+    let fronts : p_front ≡ q_front =
+    sym (datagram_front keys p_front p.plain p_size) ∙ ap (take 17) same ∙ datagram_front keys q_front q.plain q_size in
+    let plains : p.plain ≡ q.plain =
+    sym (datagram_plain keys p_front p.plain p_size)
+    ∙ ap (λ (d : List ℕ). cipher_text keys (take 32 (drop 17 d)) (drop 49 d)) same
+    ∙ datagram_plain keys q_front q.plain q_size in
+    let firsts : p.first ≡ q.first =
+    sym (header_first p.first p.sid p.id p.time) ∙ ap (λ (h : List ℕ). get_or h 0 0) fronts ∙ header_first q.first q.sid q.id q.time in
+    let sids : p.sid ≡ q.sid =
+    sym (header_sid p.first p.sid p.id p.time p_fits.sid) ∙ ap (λ (h : List ℕ). take 8 (drop 1 h)) fronts ∙ header_sid q.first q.sid q.id q.time q_fits.sid in
+    let id_bytes =
+    sym (header_id p.first p.sid p.id p.time p_fits.sid) ∙ ap (λ (h : List ℕ). take 4 (drop 9 h)) fronts ∙ header_id q.first q.sid q.id q.time q_fits.sid in
+    let time_bytes =
+    sym (header_time p.first p.sid p.id p.time p_fits.sid) ∙ ap (drop 13) fronts ∙ header_time q.first q.sid q.id q.time q_fits.sid in
+    let ids : p.id ≡ q.id =
+    sym (from_be_bytes-to_be_bytes_4 p.id p_fits.id) ∙ ap (from_be_bytes w32) id_bytes ∙ from_be_bytes-to_be_bytes_4 q.id q_fits.id in
+    let times : p.time ≡ q.time =
+    sym (from_be_bytes-to_be_bytes_4 p.time p_fits.time) ∙ ap (from_be_bytes w32) time_bytes ∙ from_be_bytes-to_be_bytes_4 q.time q_fits.time in
+    λ i. record { first = firsts i; sid = sids i; id = ids i; time = times i; plain = plains i }

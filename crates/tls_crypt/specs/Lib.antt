@@ -1,0 +1,4 @@
+pub mod Wrapped
+pub mod Packets
+pub mod Laws
+pub mod StaticKey

@@ -1,0 +1,14 @@
+//! Control packets wrapped under a static key, so that nobody without it can read or make one.
+#![tactic(auto)]
+
+mod bytes;
+mod half;
+mod header;
+mod static_key;
+mod wrapper;
+mod wrapping;
+
+pub use header::Header;
+pub use static_key::{KeyFault, KeyKind, StaticKey, read_static_key};
+pub use wrapper::Wrapper;
+pub use wrapping::{Opened, Unwrap, Wrap};

@@ -1,0 +1,89 @@
+//! Wrapping under a static key (OpenVPN 2.6, src/openvpn/tls_crypt.h).
+
+ghost use Rattle.std.specs.Prelude.{◌≡◌};
+ghost use Rattle.tls_crypt.specs.Wrapped.{half, keys_of, read_half, written_half, wrapped as datagram_of};
+ghost use Rattle.tls_crypt.specs.Packets.{Directions};
+ghost use Rattle.tls_crypt.specs.Laws.{one_packet};
+
+use crate::bytes::{array_at, put};
+use crate::half::{Half, OVERHEAD};
+use crate::header::{HEADER_LEN, Header, header_at, header_of};
+use crate::static_key::StaticKey;
+use crate::wrapping::{Unwrap, Wrap};
+use std::marker::Model;
+use vpn_base::{Role, Sid};
+
+// The bytes of a half of a static key.
+const HALF_LEN: usize = 128;
+
+/// The wrapping of control packets under a static key, at one end. Contracts see the keys of both
+/// directions.
+#[derive(Drop)]
+pub struct Wrapper {
+    writes: Half,
+    reads: Half,
+}
+
+impl Model for Wrapper {
+    ghost Value = { Directions };
+
+    ghost view = { λ w. record { writes = w.writes; reads = w.reads } };
+}
+
+impl Wrapper {
+    /// The wrapping of the end that has this role: a server wraps under half 0 of the key and unwraps
+    /// under half 1, a client the other way.
+    pub fn new(key: &StaticKey, role: Role) -> Wrapper
+        ensures { result ≡ record {
+            writes = keys_of (half key.now.0 (written_half role));
+            reads = keys_of (half key.now.0 (read_half role)) } }
+    {
+        let (first, second) = key.0.split_at(HALF_LEN);
+        match role {
+            Role::Server => Wrapper {
+                writes: Half::new(first),
+                reads: Half::new(second),
+            },
+            Role::Client => Wrapper {
+                writes: Half::new(second),
+                reads: Half::new(first),
+            },
+        }
+    }
+}
+
+impl Wrap for Wrapper {
+    ghost wrapped = { λ w. datagram_of w.writes };
+
+    ghost unwrapped = { λ w. datagram_of w.reads };
+
+    ghost wrapped_once = { λ w. one_packet w.writes };
+
+    ghost unwrapped_once = { λ w. one_packet w.reads };
+
+    fn wrap(&self, first: u8, sid: Sid, id: u32, time: u32, plain: &[u8], out: &mut [u8]) -> usize {
+        let header = header_of(first, sid, id, time);
+        let tag = self.writes.tag(&header, plain);
+        let end = OVERHEAD + plain.len();
+        put(out, 0, &header);
+        put(out, HEADER_LEN, &tag);
+        put(out, OVERHEAD, plain);
+        self.writes.encipher(&tag, &mut out[..end]);
+        end
+    }
+
+    fn unwrap_in_place(&self, datagram: &mut [u8]) -> Result<Header, Unwrap> {
+        if datagram.len() < OVERHEAD {
+            return Err(Unwrap::Short);
+        }
+        let tag: [u8; 32] = array_at(datagram, HEADER_LEN);
+        self.reads.encipher(&tag, datagram);
+        let opened = &datagram[..];
+        let expected = self.reads.tag(&opened[..HEADER_LEN], &opened[OVERHEAD..]);
+        if expected != tag {
+            self.reads.encipher(&tag, datagram);
+            return Err(Unwrap::NotWrapped);
+        }
+        Ok(header_at(datagram))
+    }
+}

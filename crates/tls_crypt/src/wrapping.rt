@@ -1,0 +1,91 @@
+//! Wrapping of control packets, whatever the keys.
+
+ghost use Rattle.std.specs.Prelude.{◌≡◌, ◌≤◌, ◌<◌, ◌+◌, ◌↔◌, ℕ, List, length, take, drop, IfOk, IsErrOf, OnOk, OnErr};
+ghost use Rattle.tls_crypt.specs.Packets.{IsOneToOne, IsWrappedByNone};
+
+use crate::half::OVERHEAD;
+use crate::header::Header;
+use vpn_base::Sid;
+
+/// Why a datagram can't be unwrapped.
+#[derive(Clone, Copy, Debug, PartialEq, Eq)]
+pub enum Unwrap {
+    /// It has fewer than 49 bytes.
+    Short,
+    /// No packet wraps to it under the key.
+    NotWrapped,
+}
+
+/// An unwrapped control packet, whose plain text lies in the datagram.
+#[derive(Clone, Copy, Debug)]
+pub struct Opened<'a> {
+    /// The first byte, with opcode and key id.
+    pub first: u8,
+    /// The sender's session id.
+    pub sid: Sid,
+    /// The wrap id.
+    pub id: u32,
+    /// The time, in seconds since 1970.
+    pub time: u32,
+    /// The plain text.
+    pub plain: &'a [u8],
+}
+
+/// Wrapping of control packets at one end, and unwrapping of what the other end wrapped.
+pub trait Wrap {
+    /// The datagram to which this end wraps a first byte, a session id, a wrap id, a time and a plain
+    /// text.
+    ghost wrapped: { Self → ℕ → List ℕ → ℕ → ℕ → List ℕ → List ℕ };
+
+    /// The datagram to which the other end wraps them.
+    ghost unwrapped: { Self → ℕ → List ℕ → ℕ → ℕ → List ℕ → List ℕ };
+
+    /// Writes the wrapped datagram to the front of `out`, and answers its length in bytes, which is 49
+    /// more than that of the plain text. The rest of `out` stays.
+    fn wrap(&self, first: u8, sid: Sid, id: u32, time: u32, plain: &[u8], out: &mut [u8]) -> usize
+        requires plain { length plain.now ≤ 65000 }
+        requires room { length plain.now + 49 ≤ length out.old }
+        ensures len { result ≡ length plain.now + 49 }
+        ensures written { take result out.new ≡ wrapped self.now first sid.0 id time plain.now }
+        ensures rest { drop result out.new ≡ drop result out.old };
+
+    /// Unwraps a datagram in place: the plain text then stands behind its first 49 bytes.
+    ///
+    /// `Short` comes exactly below 49 bytes, and `NotWrapped` exactly where no packet wraps to the
+    /// datagram at the other end. The datagram is unchanged then.
+    fn unwrap_in_place(&self, datagram: &mut [u8]) -> Result<Header, Unwrap>
+        ensures opened { IfOk result (λ h.
+            datagram.old ≡ unwrapped self.now h.first h.sid.0 h.id h.time (drop 49 datagram.new)) }
+        ensures refused { IsErrOf result Unwrap.NotWrapped → IsWrappedByNone (unwrapped self.now) datagram.old }
+        ensures short { IsErrOf result Unwrap.Short ↔ (length datagram.old < 49) }
+        ensures long { OnOk result (49 ≤ length datagram.old) }
+        ensures unchanged { OnErr result (datagram.new ≡ datagram.old) };
+
+    /// Unwraps a datagram in place, and answers the packet, whose plain text stays in the datagram.
+    ///
+    /// `Short` comes exactly below 49 bytes, and `NotWrapped` exactly where no packet wraps to the
+    /// datagram at the other end. The datagram is then as `unwrap_in_place` leaves it.
+    final fn unwrap<'d>(&self, datagram: &'d mut [u8]) -> Result<Opened<'d>, Unwrap>
+        ensures opened { IfOk result (λ o.
+            datagram.old ≡ unwrapped self.now o.first o.sid.0 o.id o.time o.plain.now) }
+        ensures refused { IsErrOf result Unwrap.NotWrapped → IsWrappedByNone (unwrapped self.now) datagram.old }
+        ensures short { IsErrOf result Unwrap.Short ↔ (length datagram.old < 49) }
+    {
+        match self.unwrap_in_place(datagram) {
+            Ok(Header { first, sid, id, time }) => Ok(Opened {
+                first,
+                sid,
+                id,
+                time,
+                plain: &datagram[OVERHEAD..],
+            }),
+            Err(fault) => Err(fault),
+        }
+    }
+
+    /// No two packets wrap to one datagram at this end.
+    ghost wrapped_once: { (w : Self) → IsOneToOne (wrapped w) };
+
+    /// No two packets wrap to one datagram at the other end.
+    ghost unwrapped_once: { (w : Self) → IsOneToOne (unwrapped w) };
+}
