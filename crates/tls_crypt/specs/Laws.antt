@@ -1,27 +1,15 @@
 -- What holds of wrapped control packets whatever the keys: their lengths, and that each has one packet.
-use Rattle.std.proofs.Common.{◌≡◌, ℕ, suc, ◌+◌, List, [], ◌∷◌, ◌++◌, length, get_or, take, drop, bit_xor, ap, sym, ◌∙◌, refl}
+use Rattle.std.proofs.Common.{◌≡◌, ℕ, suc, ◌+◌, List, ◌∷◌, ◌++◌, length, get_or, take, drop, ap, sym, ◌∙◌, refl}
 use Rattle.std.proofs.lemmas.List.{append_assoc, length-append, take_at, drop_at}
 use Rattle.std.proofs.lemmas.Nat.{from_be_bytes-to_be_bytes_4}
 use Rattle.std.specs.Int.{w32, to_be_bytes, from_be_bytes}
 use Rattle.sha2.proofs.Facts256.{length-sha256}
-use lib.Bits.{xor_assoc, xor_self, xor_zero_r}
 use Rattle.aes_core.specs.Field.{xor_bytes}
 use Rattle.aes_core.specs.CounterMode.{key_stream}
+use Rattle.aes_core.proofs.InPlace.{length-xor_bytes, xor_bytes_twice}
 use Rattle.hmac_kit.specs.Hmac.{hmac}
 use Rattle.tls_crypt.specs.Wrapped.{Keys, header, tag, cipher_text, datagram, wrapped}
 use Rattle.tls_crypt.specs.Packets.{Packet, InRange, IsOneToOne}
-
-length-xor_bytes : (xs ys : List ℕ) → length (xor_bytes xs ys) ≡ length xs
-length-xor_bytes [] ys = refl
-length-xor_bytes (x ∷ xs) [] = refl
-length-xor_bytes (x ∷ xs) (y ∷ ys) = ap suc (length-xor_bytes xs ys)
-
-xor_bytes_twice : (xs ys : List ℕ) → xor_bytes (xor_bytes xs ys) ys ≡ xs
-xor_bytes_twice [] ys = refl
-xor_bytes_twice (x ∷ xs) [] = refl
-xor_bytes_twice (x ∷ xs) (y ∷ ys) =
-    let first = xor_assoc x y y ∙ ap (bit_xor x) (xor_self y) ∙ xor_zero_r x in
-    ap (λ (z : ℕ). z ∷ xor_bytes (xor_bytes xs ys) ys) first ∙ ap (λ (rest : List ℕ). x ∷ rest) (xor_bytes_twice xs ys)
 
 -- a header has 17 bytes
 pub length-header : (first : ℕ) (sid : List ℕ) (id time : ℕ) → length sid ≡ 8 → length (header first sid id time) ≡ 17
