@@ -26,8 +26,8 @@ authentic sealed implicit f datagram inner n aad fits is is_nonce is_head opened
       peer_fits = subst (λ (p : ℕ). p < 2 ^ 24) (sym peer) fits.peer;
       id_fits = fits.id;
       is_packet =
-        subst (λ (p : ℕ). datagram ≡ packet sealed implicit f.kid p f.id inner) (sym peer)
-        (is ∙ sym (ap (λ (s : Sealed). data_packet (form f.kid f.peer f.id s)) same));
+          subst (λ (p : ℕ). datagram ≡ packet sealed implicit f.kid p f.id inner) (sym peer)
+          (is ∙ sym (ap (λ (s : Sealed). data_packet (form f.kid f.peer f.id s)) same));
     }
 
 -- ---- the bytes from 24 on

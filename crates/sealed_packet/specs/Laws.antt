@@ -41,9 +41,9 @@ only_authentic sealed implicit f datagram inner id lengths fits is opens =
     let text : g.sealed ≡ f.sealed = sym (text_read g fits_g) ∙ ap (drop 24) (sym is_g ∙ is) ∙ text_read f fits in (
       sym same_id,
       ap (λ (i : ℕ). sealed (nonce implicit i) (data_head f.kid f.peer i) inner) same_id
-      ∙ ap (λ (p : ℕ). sealed (nonce implicit id) (data_head f.kid p id) inner) peer
-      ∙ ap (λ (t : List ℕ). record { text = t; tag = g.tag }) text
-      ∙ ap (λ (t : List ℕ). record { text = f.sealed; tag = t }) tag,
+          ∙ ap (λ (p : ℕ). sealed (nonce implicit id) (data_head f.kid p id) inner) peer
+          ∙ ap (λ (t : List ℕ). record { text = t; tag = g.tag }) text
+          ∙ ap (λ (t : List ℕ). record { text = f.sealed; tag = t }) tag,
     )
 
 -- at most one inner packet opens

@@ -73,13 +73,11 @@ pub fn opens_once<C: Aead>(cipher: &C)
         → Opens (C.sealed cipher.now) implicit kid datagram i p
         → Opens (C.sealed cipher.now) implicit kid datagram j q
         → (i ≡ j) × (p ≡ q) }
-{
-}
+{}
 
 /// A packet that was sealed opens, to its packet id and its inner packet, and has its peer id.
 pub fn opens_what_was_sealed<C: Aead>(cipher: &C)
     ensures { (implicit : List ℕ) (kid peer id : ℕ) (inner : List ℕ) → peer < 2 ^ 24 → id < 2 ^ 32
         → Opens (C.sealed cipher.now) implicit kid (packet (C.sealed cipher.now) implicit kid peer id inner) id inner
         × (peer_in (packet (C.sealed cipher.now) implicit kid peer id inner) ≡ peer) }
-{
-}
+{}

@@ -130,9 +130,18 @@ fn forged(rt: HostRuntime) {
         assert_eq!(rt; datagram, before, "byte {place}");
     }
     let mut datagram = PACKET_SHORT;
-    assert_eq!(rt; open_packet(&cipher, IMPLICIT, 1, &mut datagram), Err(NotSealed));
-    assert_eq!(rt; open_packet(&cipher, [0; 8], 0, &mut datagram), Err(NotSealed));
-    assert_eq!(rt; open_packet(&long(), IMPLICIT, 0, &mut datagram), Err(NotSealed));
+    assert_eq!(rt;
+        open_packet(&cipher, IMPLICIT, 1, &mut datagram),
+        Err(NotSealed)
+    );
+    assert_eq!(rt;
+        open_packet(&cipher, [0; 8], 0, &mut datagram),
+        Err(NotSealed)
+    );
+    assert_eq!(rt;
+        open_packet(&long(), IMPLICIT, 0, &mut datagram),
+        Err(NotSealed)
+    );
     assert_eq!(rt; open_packet(&cipher, IMPLICIT, 0, &mut datagram), Ok(7));
 }
 
