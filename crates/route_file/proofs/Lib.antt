@@ -2,3 +2,4 @@ pub mod Steps
 pub mod Cuts
 pub mod Readings
 pub mod Lengths
+pub mod Unsealing

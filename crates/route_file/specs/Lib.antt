@@ -1,4 +1,7 @@
 pub mod Lines
+pub mod Keys
+pub mod Opening
+pub mod Seals
 pub mod Output
 pub mod Progress
 pub mod State

@@ -12,7 +12,9 @@ use Rattle.schedule_text.specs.declared.kind.TextKind.TheVariants as kinds
 use Rattle.schedule_text.specs.declared.route_line.RouteLine.{RouteLine}
 use Rattle.schedule_text.specs.declared.route_line.RouteLine.TheVariants as lines
 use Rattle.schedule_text.specs.RouteLine.{route_line}
+use Rattle.route_file.specs.Keys.{PacketKey, key_at, with_key}
 use Rattle.route_file.specs.Lines.{Line, lines_of, content, size}
+use Rattle.route_file.specs.Seals.{seal_text, unseal_text}
 
 -- the longest file, in bytes
 abbrev pub longest_file : ℕ
@@ -23,9 +25,10 @@ pub record Table : Type 0 where
   pub rows : List Row
   pub subnet : Option Network
   pub between : Bool
+  pub keys : List PacketKey
 
 abbrev pub empty_table : Table
-empty_table = record { rows = []; subnet = None; between = false }
+empty_table = record { rows = []; subnet = None; between = false; keys = [] }
 
 -- a client, or none
 abbrev pub client_text : Option Cid → List ℕ
@@ -46,6 +49,8 @@ abbrev pub answer : Table → RouteLine → List ℕ
 answer t (lines.Owner a) = codes "owner " ++ client_text (owner t.rows a) ++ 10 ∷ []
 answer t (lines.From cid packet) = verdict_text (verdict t.rows t.subnet t.between (Some cid) packet) ++ 10 ∷ []
 answer t (lines.Device packet) = verdict_text (verdict t.rows t.subnet t.between None packet) ++ 10 ∷ []
+answer t (lines.Seal cid kid id inner) = seal_text (key_at t.keys cid.0 kid) cid.0 kid id inner ++ 10 ∷ []
+answer t (lines.Unseal cid kid datagram) = unseal_text (key_at t.keys cid.0 kid) cid.0 kid datagram ++ 10 ∷ []
 answer t _ = []
 
 -- what a line sets up
@@ -54,6 +59,7 @@ after t (lines.Subnet network) = record t { subnet = Some network }
 after t lines.Between = record t { between = true }
 after t (lines.Add network cid) = record t { rows = t.rows ++ (network, cid) ∷ [] }
 after t (lines.Leave cid) = record t { rows = without t.rows cid }
+after t (lines.Key cid kid cipher key iv) = record t { keys = with_key t.keys (record { cid = cid.0; kid = kid; key = key; iv = iv }) }
 after t _ = t
 
 -- what is printed, and the first faulty line with its fault

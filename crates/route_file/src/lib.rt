@@ -2,8 +2,10 @@
 #![tactic(auto)]
 
 mod answers;
+mod keys;
 mod reader;
 mod state;
 
+pub use keys::opened_is_what_opens;
 pub use reader::RouteReader;
 pub use state::{LONGEST_FILE, RouteFault};

@@ -4,11 +4,13 @@ ghost use Rattle.std.specs.Prelude.{◌≡◌, ◌+◌, ◌-◌, ◌<◌, ◌≤
 ghost use Rattle.std.specs.String.{string_bytes};
 ghost use Rattle.route_table.specs.Owner.{owner};
 ghost use Rattle.inner_verdict.specs.Verdict.{verdict};
+ghost use Rattle.schedule_text.specs.SealLines.{IsBounded};
 ghost use Rattle.route_file.specs.Lines.{Line, content, size};
 ghost use Rattle.route_file.specs.Output.{after, answer};
 ghost use Rattle.route_file.specs.Progress.{Ends, Refuses};
 
-use crate::answers::{print_owner, print_verdict};
+use crate::answers::{print_owner, print_sealed, print_unsealed, print_verdict};
+use crate::keys::{Key, drop_key, find_key};
 use inner_verdict::{Verdict, verdict_on};
 use route_table::RouteTable;
 use schedule_text::{RouteLine, TextKind, read_route_line};
@@ -36,6 +38,7 @@ pub(crate) struct State {
     pub(crate) table: RouteTable,
     pub(crate) subnet: Option<Prefix>,
     pub(crate) between: bool,
+    pub(crate) keys: Vec<Key>,
     pub(crate) text: String,
     pub(crate) count: u64,
     pub(crate) bytes: u64,
@@ -97,6 +100,7 @@ impl State {
         ensures table { result.table ≡ [] }
         ensures subnet { result.subnet ≡ None }
         ensures between { result.between ≡ false }
+        ensures keys { result.keys.items ≡ [] }
         ensures text { string_bytes result.text ≡ [] }
         ensures count { result.count ≡ 0 }
         ensures bytes { result.bytes ≡ 0 }
@@ -109,13 +113,15 @@ impl State {
             table,
             subnet: None,
             between: false,
+            keys: Vec::new(alloc),
             text: String::new(alloc),
             count: 0,
             bytes: 0,
         }
     }
 
-    fn print_answer(&mut self, line: &RouteLine) -> Result<(), NoMemory>
+    fn print_answer(&mut self, alloc: Global, line: &RouteLine) -> Result<(), NoMemory>
+        requires { IsBounded line.now }
         ensures printed { OnOk result (string_bytes self.new.text ≡ string_bytes self.old.text ++ answer (progress_of self.old []).table line.now) }
         ensures table { OnOk result ((progress_of self.new []).table ≡ (progress_of self.old []).table) }
         ensures count { self.new.count ≡ self.old.count }
@@ -148,11 +154,33 @@ impl State {
                 );
                 print_verdict(&mut self.text, verdict)
             }
+            RouteLine::Seal {
+                cid,
+                kid,
+                id,
+                inner,
+            } => {
+                let key = find_key(self.keys.as_slice(), *cid, *kid);
+                print_sealed(
+                    alloc,
+                    &mut self.text,
+                    key,
+                    *cid,
+                    *kid,
+                    *id,
+                    inner.as_slice(),
+                )
+            }
+            RouteLine::Unseal { cid, kid, datagram } => {
+                let key = find_key(self.keys.as_slice(), *cid, *kid);
+                print_unsealed(alloc, &mut self.text, key, *cid, *kid, datagram.as_slice())
+            }
             _ => Ok(()),
         }
     }
 
     fn set_up(&mut self, line: RouteLine) -> Result<(), NoMemory>
+        requires { IsBounded line }
         ensures table { OnOk result ((progress_of self.new []).table ≡ after (progress_of self.old []).table line) }
         ensures text { string_bytes self.new.text ≡ string_bytes self.old.text }
         ensures count { self.new.count ≡ self.old.count }
@@ -163,18 +191,30 @@ impl State {
             RouteLine::Between => self.between = true,
             RouteLine::Add(network, cid) => self.table.add(network, cid)?,
             RouteLine::Leave(cid) => self.table.drop_client(cid),
+            RouteLine::Key {
+                cid,
+                kid,
+                cipher,
+                key,
+                iv,
+            } => {
+                let key = Key::new(cid, kid, cipher, key.as_slice(), iv);
+                drop_key(&mut self.keys, cid, kid);
+                self.keys.push(key)?;
+            }
             _ => {}
         }
         Ok(())
     }
 
-    fn apply(&mut self, line: RouteLine) -> Result<(), NoMemory>
+    fn apply(&mut self, alloc: Global, line: RouteLine) -> Result<(), NoMemory>
+        requires { IsBounded line }
         ensures printed { OnOk result (string_bytes self.new.text ≡ string_bytes self.old.text ++ answer (progress_of self.old []).table line) }
         ensures table { OnOk result ((progress_of self.new []).table ≡ after (progress_of self.old []).table line) }
         ensures count { self.new.count ≡ self.old.count }
         ensures bytes { self.new.bytes ≡ self.old.bytes }
     {
-        self.print_answer(&line)?;
+        self.print_answer(alloc, &line)?;
         self.set_up(line)?;
         Ok(())
     }
@@ -216,7 +256,7 @@ impl State {
             Err(Or::Memory) => return Err(Or::Memory),
             Err(Or::Why(kind)) => return Err(self.fault(kind)),
         };
-        let Ok(()) = self.apply(line) else {
+        let Ok(()) = self.apply(alloc, line) else {
             return Err(Or::Memory);
         };
         self.count += 1;

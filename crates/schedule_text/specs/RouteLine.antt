@@ -9,6 +9,7 @@ use Rattle.schedule_text.specs.declared.kind.TextKind.{TextKind}
 use Rattle.schedule_text.specs.declared.kind.TextKind.TheVariants as kinds
 use Rattle.schedule_text.specs.declared.route_line.RouteLine.{RouteLine}
 use Rattle.schedule_text.specs.declared.route_line.RouteLine.TheVariants as lines
+use Rattle.schedule_text.specs.SealLines.{key_line, seal_line, unseal_line}
 use Rattle.schedule_text.specs.Words.{words_of, are_none, one_of, two_of, network_of, bytes_of}
 
 -- the longest line, in bytes, without its end
@@ -94,6 +95,9 @@ command_line command arguments =
     else if bytes_eq command (codes "leave") then leave_line (one_of arguments)
     else if bytes_eq command (codes "subnet") then subnet_line (one_of arguments)
     else if bytes_eq command (codes "client-to-client") then between_line (are_none arguments)
+    else if bytes_eq command (codes "key") then key_line arguments
+    else if bytes_eq command (codes "seal") then seal_line arguments
+    else if bytes_eq command (codes "unseal") then unseal_line arguments
     else Err kinds.Words
 
 abbrev pub words_line : List (List ℕ) → Result RouteLine TextKind

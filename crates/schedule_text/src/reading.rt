@@ -1,13 +1,15 @@
 //! Reading the lines of a route file.
 
-ghost use Rattle.std.specs.Prelude.{◌≡◌};
+ghost use Rattle.std.specs.Prelude.{◌≡◌, IfOk};
 ghost use Rattle.std.specs.Option.{option_copied};
 ghost use Rattle.vpn_base.specs.Answers.{Answers};
 ghost use Rattle.schedule_text.specs.Words.{arguments_of, are_none, one_of, two_of};
+ghost use Rattle.schedule_text.specs.SealLines.{IsBounded};
 ghost use Rattle.schedule_text.specs.RouteLine.{add_line, between_line, command_line, device_line, from_line, leave_line, owner_line, route_line, subnet_line};
 
 use crate::kind::TextKind;
 use crate::route_line::{LONGEST_LINE, RouteLine};
+use crate::seal_lines::{read_key, read_seal, read_unseal};
 use crate::words::{one_word, read_bytes, read_prefix, two_words};
 use std::alloc::Global;
 use vpn_base::{Cid, Or, read_ip4, read_number, split_once};
@@ -109,7 +111,8 @@ fn read_device(alloc: Global, arguments: Option<&[u8]>) -> Read
 
 #[tactic(auto, unfolding(crate::specs::RouteLine::command_line))]
 fn read_command(alloc: Global, command: &[u8], arguments: Option<&[u8]>) -> Read
-    ensures { Answers result (command_line command.now (arguments_of (option_copied arguments.entry))) }
+    ensures exact { Answers result (command_line command.now (arguments_of (option_copied arguments.entry))) }
+    ensures bounded { IfOk result IsBounded }
 {
     if command == b"from".as_slice() {
         return read_from(alloc, arguments);
@@ -132,15 +135,28 @@ fn read_command(alloc: Global, command: &[u8], arguments: Option<&[u8]>) -> Read
     if command == b"client-to-client".as_slice() {
         return read_between(arguments);
     }
+    if command == b"key".as_slice() {
+        return read_key(alloc, arguments);
+    }
+    if command == b"seal".as_slice() {
+        return read_seal(alloc, arguments);
+    }
+    if command == b"unseal".as_slice() {
+        return read_unseal(alloc, arguments);
+    }
     Err(Or::Why(TextKind::Words))
 }
 
 /// The line of a route file that a text without its end spells. A refusal is the first fault of
-/// the line in the order of `TextKind`'s page: Long above 140,000 bytes, Words, Number, Address,
-/// Digits.
+/// the line in the order of `TextKind`'s page: Long above 140,000 bytes, and where the HEX word of
+/// `seal` has more than 3,000 characters or that of `unseal` more than 3,048, then Words, Number,
+/// Address, Digits.
 #[tactic(auto, unfolding(crate::specs::RouteLine::route_line))]
 pub fn read_route_line(alloc: Global, line: &[u8]) -> Result<RouteLine, Or<TextKind>>
-    ensures { Answers result (route_line line.now) }
+    ensures exact { Answers result (route_line line.now) }
+
+    // The fields of a key, and of what is sealed and opened, are in range.
+    ensures bounded { IfOk result IsBounded }
 {
     if line.len() > LONGEST_LINE {
         return Err(Or::Why(TextKind::Long));

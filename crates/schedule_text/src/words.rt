@@ -1,6 +1,6 @@
 //! The words of a line, and the values that they spell.
 
-ghost use Rattle.std.specs.Prelude.{◌≡◌, ◌==◌, Some, None, MatchOption, IfOk};
+ghost use Rattle.std.specs.Prelude.{◌≡◌, ◌==◌, [], ◌∷◌, Some, None, MatchOption, IfOk, IfSome, ◌*◌, ◌≤◌, length};
 ghost use Rattle.std.specs.List.{slice_split};
 ghost use Rattle.std.specs.Option.{option_copied};
 ghost use Rattle.schedule_text.specs.Words.{words_of, arguments_of, one_of, two_of, network_of, bytes_of};
@@ -20,6 +20,21 @@ fn two_parts(text: &[u8], byte: u8) -> Option<(&[u8], &[u8])>
         Some((first, rest)) => match split_once(rest, byte) {
             None => Some((first, rest)),
             Some(_) => None,
+        },
+    }
+}
+
+/// The first word of a text, and the text of the words behind it, if there are any.
+pub(crate) fn next_word(text: Option<&[u8]>) -> Option<(&[u8], Option<&[u8]>)>
+    ensures { MatchOption result
+        (arguments_of (option_copied text.entry) ≡ [])
+        (λ parts. arguments_of (option_copied text.entry) ≡ parts.0.now ∷ arguments_of (option_copied parts.1)) }
+{
+    match text {
+        None => None,
+        Some(text) => match split_once(text, b' ') {
+            None => Some((text, None)),
+            Some((first, rest)) => Some((first, Some(rest))),
         },
     }
 }
@@ -66,7 +81,8 @@ pub(crate) fn read_prefix(word: &[u8]) -> Option<Prefix>
 /// case.
 #[tactic(auto, unfolding(crate::specs::Words::bytes_of))]
 pub(crate) fn read_bytes(alloc: Global, word: &[u8]) -> Result<Option<Bytes>, NoMemory>
-    ensures { IfOk result (λ bytes. bytes ≡ bytes_of word.now) }
+    ensures same { IfOk result (λ bytes. bytes ≡ bytes_of word.now) }
+    ensures short { IfOk result (λ bytes. IfSome bytes (λ b. 2 * length b ≤ length word.now)) }
 {
     if word.is_empty() {
         return Ok(None);
