@@ -26,7 +26,7 @@ read_of key implicit kid id f inner fits opens =
     let text : f.sealed ≡ g.sealed = sym (text_read f (readable f fits)) ∙ ap (drop 24) is ∙ text_read g fits_g in (
       same,
       ap (λ (i : ℕ). cipher_text key (nonce implicit i) f.sealed) same
-      ∙ deciphered key (nonce implicit id) (data_head kid (peer_in (data_packet f)) id) inner f.sealed text,
+          ∙ deciphered key (nonce implicit id) (data_head kid (peer_in (data_packet f)) id) inner f.sealed text,
     )
 
 eq_true : (a b : List ℕ) → a ≡ b → bytes_eq a b ≡ true

@@ -86,7 +86,15 @@ impl Key {
         ensures { IfOk result (λ bytes. bytes ≡ packet (gcm self.now.key) self.now.iv kid peer id inner.now) }
     {
         let mut out = vec![in alloc; 0u8; OVERHEAD + inner.len()]?;
-        seal_packet(&self.cipher, self.iv, kid, peer, id, inner, out.as_mut_slice());
+        seal_packet(
+            &self.cipher,
+            self.iv,
+            kid,
+            peer,
+            id,
+            inner,
+            out.as_mut_slice(),
+        );
         Ok(Bytes::of(out))
     }
 
@@ -144,9 +152,11 @@ pub(crate) fn find_key(keys: &[Key], cid: Cid, kid: u8) -> Option<&Key>
 pub(crate) fn drop_key(keys: &mut Vec<Key>, cid: Cid, kid: u8)
     ensures { keys.new.items ≡ other_keys keys.old.items cid.0 kid }
 {
-    keys.retain(|key: &Key| -> bool
-        ensures { result ≡ not (is_named cid.0 kid key.now) }
-    { !key.is_for(cid, kid) });
+    keys.retain(
+        |key: &Key| -> bool
+            ensures { result ≡ not (is_named cid.0 kid key.now) }
+        { !key.is_for(cid, kid) },
+    );
 }
 
 /// What a packet that is opened as `opened` says is: exactly what opens under the key, for its
@@ -155,5 +165,4 @@ pub fn opened_is_what_opens()
     ensures { (key implicit : List ℕ) (kid peer : ℕ) (f : DataForm) (id : ℕ) (inner : List ℕ) → peer < 2 ^ 24 → IsData f →
         (opened key implicit kid peer f ≡ Some (id, inner))
         ↔ (Opens (gcm key) implicit kid (data_packet f) id inner × (peer_in (data_packet f) ≡ peer)) }
-{
-}
+{}

@@ -154,9 +154,22 @@ impl State {
                 );
                 print_verdict(&mut self.text, verdict)
             }
-            RouteLine::Seal { cid, kid, id, inner } => {
+            RouteLine::Seal {
+                cid,
+                kid,
+                id,
+                inner,
+            } => {
                 let key = find_key(self.keys.as_slice(), *cid, *kid);
-                print_sealed(alloc, &mut self.text, key, *cid, *kid, *id, inner.as_slice())
+                print_sealed(
+                    alloc,
+                    &mut self.text,
+                    key,
+                    *cid,
+                    *kid,
+                    *id,
+                    inner.as_slice(),
+                )
             }
             RouteLine::Unseal { cid, kid, datagram } => {
                 let key = find_key(self.keys.as_slice(), *cid, *kid);
@@ -178,7 +191,13 @@ impl State {
             RouteLine::Between => self.between = true,
             RouteLine::Add(network, cid) => self.table.add(network, cid)?,
             RouteLine::Leave(cid) => self.table.drop_client(cid),
-            RouteLine::Key { cid, kid, cipher, key, iv } => {
+            RouteLine::Key {
+                cid,
+                kid,
+                cipher,
+                key,
+                iv,
+            } => {
                 let key = Key::new(cid, kid, cipher, key.as_slice(), iv);
                 drop_key(&mut self.keys, cid, kid);
                 self.keys.push(key)?;

@@ -121,7 +121,12 @@ fn read_seal_words(alloc: Global, cid: &[u8], kid: &[u8], id: &[u8], inner: &[u8
         return Err(Or::Why(TextKind::Digits));
     };
     let cid = Cid(cid);
-    Ok(RouteLine::Seal { cid, kid, id, inner })
+    Ok(RouteLine::Seal {
+        cid,
+        kid,
+        id,
+        inner,
+    })
 }
 
 fn read_unseal_words(alloc: Global, cid: &[u8], kid: &[u8], datagram: &[u8]) -> Read
@@ -176,7 +181,13 @@ fn read_key_words(
         return Err(Or::Why(TextKind::Digits));
     };
     let cid = Cid(cid);
-    Ok(RouteLine::Key { cid, kid, cipher, key, iv })
+    Ok(RouteLine::Key {
+        cid,
+        kid,
+        cipher,
+        key,
+        iv,
+    })
 }
 
 /// The line of the words behind `key`.
