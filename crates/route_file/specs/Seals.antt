@@ -19,6 +19,7 @@ abbrev pub seal_text : Option PacketKey → ℕ → ℕ → ℕ → List ℕ →
 seal_text None cid kid id inner = codes "no-key"
 seal_text (Some k) cid kid id inner = codes "sealed " ++ bytes_text (packet (gcm k.key) k.iv kid cid id inner)
 
+-- a packet that opened, or none
 abbrev pub opened_text : Option (ℕ × List ℕ) → List ℕ
 opened_text None = codes "not-sealed"
 opened_text (Some p) = codes "opened " ++ decimal p.0 ++ codes " " ++ bytes_text p.1

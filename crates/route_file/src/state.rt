@@ -6,7 +6,7 @@ ghost use Rattle.route_table.specs.Owner.{owner};
 ghost use Rattle.inner_verdict.specs.Verdict.{verdict};
 ghost use Rattle.schedule_text.specs.SealLines.{IsBounded};
 ghost use Rattle.route_file.specs.Lines.{Line, content, size};
-ghost use Rattle.route_file.specs.Output.{after, answer};
+ghost use Rattle.route_file.specs.Output.{after, answer, verdict_text};
 ghost use Rattle.route_file.specs.Progress.{Ends, Refuses};
 
 use crate::answers::{print_owner, print_sealed, print_unsealed, print_verdict};
@@ -120,6 +120,25 @@ impl State {
         }
     }
 
+    // Where a packet goes that comes from this client, or from the device.
+    fn print_verdict_on(&mut self, sender: Option<Cid>, packet: &[u8]) -> Result<(), NoMemory>
+        ensures printed { OnOk result (string_bytes self.new.text ≡ string_bytes self.old.text
+            ++ (verdict_text (verdict self.old.table self.old.subnet self.old.between sender packet.now) ++ 10 ∷ [])) }
+        ensures table { (progress_of self.new []).table ≡ (progress_of self.old []).table }
+        ensures count { self.new.count ≡ self.old.count }
+        ensures bytes { self.new.bytes ≡ self.old.bytes }
+    {
+        let verdict = verdict_of::<Brand>(
+            Blank::new(1),
+            &self.table,
+            self.subnet,
+            self.between,
+            sender,
+            packet,
+        );
+        print_verdict(&mut self.text, verdict)
+    }
+
     fn print_answer(&mut self, alloc: Global, line: &RouteLine) -> Result<(), NoMemory>
         requires { IsBounded line.now }
         ensures printed { OnOk result (string_bytes self.new.text ≡ string_bytes self.old.text ++ answer (progress_of self.old []).table line.now) }
@@ -132,28 +151,8 @@ impl State {
                 let found = owner_of::<Brand>(Blank::new(1), &self.table, *a);
                 print_owner(&mut self.text, found)
             }
-            RouteLine::From(cid, packet) => {
-                let verdict = verdict_of::<Brand>(
-                    Blank::new(1),
-                    &self.table,
-                    self.subnet,
-                    self.between,
-                    Some(*cid),
-                    packet.as_slice(),
-                );
-                print_verdict(&mut self.text, verdict)
-            }
-            RouteLine::Device(packet) => {
-                let verdict = verdict_of::<Brand>(
-                    Blank::new(1),
-                    &self.table,
-                    self.subnet,
-                    self.between,
-                    None,
-                    packet.as_slice(),
-                );
-                print_verdict(&mut self.text, verdict)
-            }
+            RouteLine::From(cid, packet) => self.print_verdict_on(Some(*cid), packet.as_slice()),
+            RouteLine::Device(packet) => self.print_verdict_on(None, packet.as_slice()),
             RouteLine::Seal {
                 cid,
                 kid,

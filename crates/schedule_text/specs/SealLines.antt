@@ -18,6 +18,7 @@ peer_of word = number_of 0xFFFFFE word
 abbrev pub key_id_of : List ℕ → Option ℕ
 key_id_of word = number_of 7 word
 
+-- a number that is not 0
 abbrev pub above_zero : Option ℕ → Option ℕ
 above_zero None = None
 above_zero (Some n) = if n == 0 then None else Some n
@@ -49,11 +50,13 @@ key_of (Some cid) (Some kid) cipher (Some key) (Some iv) = Ok (lines.Key (record
 key_of (Some cid) (Some kid) cipher key iv = Err kinds.Digits
 key_of cid kid cipher key iv = Err kinds.Number
 
+-- another cipher is no word of the line
 abbrev pub key_under : Option Cipher → List ℕ → List ℕ → List ℕ → List ℕ → Result RouteLine TextKind
 key_under None cid kid key iv = Err kinds.Words
 key_under (Some cipher) cid kid key iv =
     key_of (peer_of cid) (key_id_of kid) cipher (sized (key_length cipher) (bytes_of key)) (sized 8 (bytes_of iv))
 
+-- five words
 unfoldable pub key_line : List (List ℕ) → Result RouteLine TextKind
 key_line (cid ∷ kid ∷ cipher ∷ key ∷ iv ∷ []) = key_under (cipher_of cipher) cid kid key iv
 key_line _ = Err kinds.Words
@@ -85,6 +88,7 @@ unseal_of (Some cid) (Some kid) (Some datagram) = Ok (lines.Unseal (record { 0 =
 unseal_of (Some cid) (Some kid) None = Err kinds.Digits
 unseal_of cid kid datagram = Err kinds.Number
 
+-- likewise
 unfoldable pub unseal_line : List (List ℕ) → Result RouteLine TextKind
 unseal_line (cid ∷ kid ∷ datagram ∷ more) =
     if nat_lt longest_unseal (length datagram) then Err kinds.Long

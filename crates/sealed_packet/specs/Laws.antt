@@ -13,11 +13,13 @@ abbrev pub form_opened : Sealing → List ℕ → ℕ → List ℕ → ℕ → L
 form_opened sealed implicit kid datagram id inner =
     form kid (peer_in datagram) id (sealed_inner sealed implicit kid (peer_in datagram) id inner)
 
+-- what opens is the packet of that form
 pub is_form_opened : (sealed : Sealing) (implicit : List ℕ) (kid id : ℕ) (datagram inner : List ℕ) → Opens sealed implicit kid datagram id inner →
     datagram ≡ data_packet (form_opened sealed implicit kid datagram id inner)
 unfolding packet
 is_form_opened sealed implicit kid id datagram inner opens = opens.is_packet
 
+-- and that form is read back
 pub readable_opened : (sealed : Sealing) (implicit : List ℕ) (kid id : ℕ) (datagram inner : List ℕ) → Lengths sealed →
     Opens sealed implicit kid datagram id inner → IsReadable (form_opened sealed implicit kid datagram id inner)
 readable_opened sealed implicit kid id datagram inner lengths opens = record {
@@ -57,7 +59,7 @@ one_opens sealed implicit kid datagram i j p q lengths one_plain first second =
     let same = only_authentic sealed implicit f datagram p i lengths fits is first in
     (same.0, one_plain (nonce implicit j) (data_head kid (peer_in datagram) j) p q same.1)
 
--- what was sealed has its peer id, and opens
+-- what was sealed has its peer id
 pub sealed_peer : (sealed : Sealing) (implicit : List ℕ) (kid peer id : ℕ) (inner : List ℕ) → Lengths sealed → peer < 2 ^ 24 → id < 2 ^ 32 →
     peer_in (packet sealed implicit kid peer id inner) ≡ peer
 unfolding packet
@@ -65,6 +67,7 @@ sealed_peer sealed implicit kid peer id inner lengths peer_fits id_fits =
     peer_read (form kid peer id (sealed_inner sealed implicit kid peer id inner))
     (record { peer = peer_fits; id = id_fits; tag = (lengths (nonce implicit id) (data_head kid peer id) inner).1 })
 
+-- what was sealed opens
 pub sealed_opens : (sealed : Sealing) (implicit : List ℕ) (kid peer id : ℕ) (inner : List ℕ) → Lengths sealed → peer < 2 ^ 24 → id < 2 ^ 32 →
     Opens sealed implicit kid (packet sealed implicit kid peer id inner) id inner
 sealed_opens sealed implicit kid peer id inner lengths peer_fits id_fits =

@@ -12,15 +12,18 @@ pub record IsReadable (f : DataForm) : Type 0 where
   pub id : f.id < 2 ^ 32
   pub tag : length f.tag ≡ 16
 
+-- what has a spelling is readable
 pub readable : (f : DataForm) → IsData f → IsReadable f
 readable f fits = record { peer = fits.peer; id = fits.id; tag = fits.tag }
 
+-- the packet id that stands in a data packet, behind the peer id
 abbrev pub id_in : List ℕ → ℕ
 id_in datagram = from_be_bytes w32 (take 4 (drop 4 datagram))
 
 peer_again : (peer : ℕ) → peer < 2 ^ 24 → from_be_bytes w32 (0 ∷ three_bytes peer) ≡ peer
 peer_again peer small = omega arith
 
+-- each part stands in its place
 pub peer_read : (f : DataForm) → IsReadable f → peer_in (data_packet f) ≡ f.peer
 unfolding data_packet data_head
 peer_read f fits = peer_again f.peer fits.peer

@@ -3,6 +3,8 @@ use std::alloc::Global;
 use std::test::Fail;
 use vpn_base::{Bytes, MemFiles, MemSink, Text};
 
+mod sealing;
+
 #[derive(Clone, Copy)]
 struct Case<'a> {
     words: &'a [&'a str],
@@ -134,7 +136,7 @@ fn faulty_lines(rt: HostRuntime) -> Result<(), Fail> {
         ("device 00 00", "words"),
         ("device 000", "digits"),
         ("device ", "digits"),
-        ("key 1 0 AES-128-GCM 00 00", "words"),
+        ("Key 1 0 AES-128-GCM 00 00", "words"),
         ("Add 10.8.0.0/24 1", "words"),
         (" add 10.8.0.0/24 1", "words"),
         (" ", "words"),

@@ -2,6 +2,3 @@ use Rattle.route_file.proofs.state.State.print_answer.Given as goal
 
 abbrev pub ghosts-owner_of : goal.ghosts-owner_of
 ghosts-owner_of a = record { name = a.blank.name; parts = a.blank.parts }
-
-abbrev pub ghosts-verdict_of : goal.ghosts-verdict_of
-ghosts-verdict_of a = record { name = a.blank.name; parts = a.blank.parts }
