@@ -1,0 +1,5 @@
+pub mod Entries
+pub mod Rooms
+pub mod Standing
+pub mod LongStanding
+pub mod RunLaws

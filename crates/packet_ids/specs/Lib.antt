@@ -1,0 +1,5 @@
+pub mod Freshness
+pub mod Window
+pub mod LongFreshness
+pub mod LongWindows
+pub mod Runs

@@ -1,0 +1,15 @@
+//! Packet ids: given out in order, and judged fresh by everything that was accepted before.
+#![tactic(auto)]
+
+mod long_windows;
+mod runs;
+mod sending;
+mod windows;
+
+pub use long_windows::LongWindow;
+pub use runs::{judge_ids, judge_wrap_ids};
+pub use sending::{SendIds, Spent};
+pub use windows::Window;
+
+#[cfg(test)]
+mod tests;
