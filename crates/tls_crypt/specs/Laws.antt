@@ -9,7 +9,7 @@ use Rattle.aes_core.specs.Field.{xor_bytes}
 use Rattle.aes_core.specs.CounterMode.{key_stream}
 use Rattle.hmac_kit.specs.Hmac.{hmac}
 use Rattle.tls_crypt.specs.Wrapped.{Keys, header, tag, cipher_text, datagram, wrapped}
-use Rattle.tls_crypt.specs.Packets.{Packet, InRange, IsOneToOne}
+use Rattle.tls_crypt.specs.Packets.{IsOneToOne}
 
 length-xor_bytes : (xs ys : List ℕ) → length (xor_bytes xs ys) ≡ length xs
 length-xor_bytes [] ys = refl

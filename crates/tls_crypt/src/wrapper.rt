@@ -35,8 +35,9 @@ impl Wrapper {
     /// under half 1, a client the other way.
     pub fn new(key: &StaticKey, role: Role) -> Wrapper
         ensures { result ≡ record {
-            writes = keys_of (half key.now.0 (written_half role));
-            reads = keys_of (half key.now.0 (read_half role)) } }
+          writes = keys_of (half key.now.0 (written_half role));
+          reads = keys_of (half key.now.0 (read_half role));
+        } }
     {
         let (first, second) = key.0.split_at(HALF_LEN);
         match role {

@@ -72,7 +72,14 @@ pub trait Wrap {
         ensures short { IsErrOf result Unwrap.Short ↔ (length datagram.old < 49) }
     {
         match self.unwrap_in_place(datagram) {
-            Ok(Header { first, sid, id, time }) => Ok(Opened {
+            Ok(
+                Header {
+                    first,
+                    sid,
+                    id,
+                    time,
+                },
+            ) => Ok(Opened {
                 first,
                 sid,
                 id,
