@@ -1,12 +1,12 @@
 -- The key's bytes, line by line.
-use Rattle.std.proofs.Common.{◌≡◌, ℕ, zero, suc, ◌+◌, List, [], ◌∷◌, ◌++◌, Bool, true, false, cond, if◌then◌else◌, Option, Some, None, Result, Ok, Err, refl, ap, sym, ◌∙◌, arith}
-use Rattle.std.proofs.lemmas.List.{append-nil, append_assoc}
+use Rattle.std.proofs.Common.{◌≡◌, ℕ, suc, ◌+◌, List, [], ◌∷◌, ◌++◌, Bool, true, false, cond, if◌then◌else◌, Option, Some, None, Result, Ok, Err, refl, ap, sym, ◌∙◌}
+use Rattle.std.proofs.lemmas.List.{append_assoc}
 use Rattle.std.specs.Str.{bytes_eq}
 use Rattle.std.specs.Result.{MatchResult, result_ok}
 use Rattle.hex.specs.declared.error.FromHexError.{FromHexError}
 use Rattle.tls_crypt.specs.declared.static_key.KeyFault.{KeyFault}
 use Rattle.tls_crypt.specs.declared.static_key.KeyKind.TheVariants.{Digits, NoBegin, NoEnd}
-use Rattle.tls_crypt.specs.StaticKey.{behind, with_digits, body, digits_of, from_begin, begin_line, end_line, static_key}
+use Rattle.tls_crypt.specs.StaticKey.{behind, with_digits, body, digits_of, from_begin, begin_line, end_line}
 
 abbrev ok_of : Unit {0} → Result (Unit {0}) FromHexError
 ok_of u = Ok u

@@ -9,7 +9,7 @@ use Rattle.aes_core.specs.CounterMode.{key_stream}
 use Rattle.aes_core.proofs.InPlace.{length-xor_bytes, xor_bytes_twice}
 use Rattle.hmac_kit.specs.Hmac.{hmac}
 use Rattle.tls_crypt.specs.Wrapped.{Keys, header, tag, cipher_text, datagram, wrapped}
-use Rattle.tls_crypt.specs.Packets.{Packet, InRange, IsOneToOne}
+use Rattle.tls_crypt.specs.Packets.{IsOneToOne}
 
 -- a header has 17 bytes
 pub length-header : (first : ℕ) (sid : List ℕ) (id time : ℕ) → length sid ≡ 8 → length (header first sid id time) ≡ 17

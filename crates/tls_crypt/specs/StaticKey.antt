@@ -5,7 +5,6 @@ use Rattle.std.specs.Str.Lines.{lines}
 use Rattle.std.specs.Result.{result_ok}
 use Rattle.hex.specs.Hex.{decode_sized}
 use Rattle.tls_crypt.specs.declared.static_key.KeyFault.{KeyFault}
-use Rattle.tls_crypt.specs.declared.static_key.KeyKind.{KeyKind}
 use Rattle.tls_crypt.specs.declared.static_key.KeyKind.TheVariants.{NoBegin, Digits, NoEnd}
 
 -- the line in front of the digits

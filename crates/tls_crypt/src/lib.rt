@@ -12,3 +12,6 @@ pub use header::Header;
 pub use static_key::{KeyFault, KeyKind, StaticKey, read_static_key};
 pub use wrapper::Wrapper;
 pub use wrapping::{Opened, Unwrap, Wrap};
+
+#[cfg(test)]
+mod tests;

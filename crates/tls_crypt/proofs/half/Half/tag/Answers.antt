@@ -1,4 +1,4 @@
-use Rattle.std.proofs.Common.{◌++◌, ap, sym, ◌∙◌}
+use Rattle.std.proofs.Common.{ap, ◌∙◌}
 use Rattle.tls_crypt.specs.Wrapped.{Keys, tag}
 use Rattle.tls_crypt.proofs.half.Half.tag.Goals as goal
 

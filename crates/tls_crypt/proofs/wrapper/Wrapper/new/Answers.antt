@@ -1,6 +1,6 @@
-use Rattle.std.proofs.Common.{rules, ◌≡◌, List, ℕ, ◌-◌, length, take, drop, take_all, ap, sym, ◌∙◌, arith}
+use Rattle.std.proofs.Common.{rules, ◌≡◌, length, drop, take_all, ap, sym, ◌∙◌, arith}
 use Rattle.std.proofs.lemmas.List.{length-drop}
-use Rattle.tls_crypt.specs.Wrapped.{keys_of, half}
+use Rattle.tls_crypt.specs.Wrapped.{keys_of}
 use Rattle.tls_crypt.proofs.wrapper.Wrapper.new.Goals as goal
 
 pub returns-in-Server : goal.returns-in-Server

@@ -1,7 +1,7 @@
-use Rattle.std.proofs.Common.{◌≡◌, ℕ, ◌≤◌, true, false, not, List, ◌++◌, length, take, drop, ap, sym, ◌∙◌, arith}
+use Rattle.std.proofs.Common.{◌≡◌, ℕ, ◌≤◌, true, false, not, List, length, take, drop, ap, sym, ◌∙◌, arith}
 use Rattle.std.proofs.lemmas.List.{take_rest}
 use Rattle.std.proofs.lemmas.Slice.Eq.{bytes_eq-Decides}
-use Rattle.tls_crypt.specs.Wrapped.{Keys, datagram, header, tag, wrapped}
+use Rattle.tls_crypt.specs.Wrapped.{datagram, header, tag, wrapped}
 use Rattle.tls_crypt.specs.Packets.{Directions}
 use Rattle.tls_crypt.specs.Laws.{length-header}
 use Rattle.tls_crypt.proofs.Datagrams.{is_wrapped, not_false, restored, right_tag}

@@ -1,6 +1,6 @@
 use Rattle.std.proofs.Common.{rules, ◌≡◌, ℕ, ◌+◌, List, ◌++◌, length, take, drop, ap, sym, ◌∙◌, arith}
 use Rattle.std.proofs.lemmas.List.{take_at, drop_at}
-use Rattle.tls_crypt.specs.Wrapped.{Keys, cipher_text, datagram, wrapped}
+use Rattle.tls_crypt.specs.Wrapped.{cipher_text, datagram, wrapped}
 use Rattle.tls_crypt.specs.Packets.{Directions}
 use Rattle.tls_crypt.proofs.Datagrams.{drop_kept, length-datagram, wrapped_in_place}
 use Rattle.tls_crypt.proofs.wrapper.WrapperWrap.wrap.Goals as goal
