@@ -1,4 +1,4 @@
-//! Packets of the wire protocol spelled by hand.
+//! Packets spelled by hand.
 
 use super::*;
 use vpn_base::{Acks, Malformed, Sid};
