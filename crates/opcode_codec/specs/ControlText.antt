@@ -1,4 +1,4 @@
--- The plain text of a control packet (OpenVPN wire protocol, control channel packets).
+-- The plain text of a control packet (OpenVPN network protocol, plaintext control channel messages).
 use Rattle.std.specs.Prelude.{◌≡◌, ◌⊎◌, ℕ, zero, suc, ◌+◌, ◌-◌, ◌*◌, ◌^◌, ◌<◌, ◌≤◌, ◌==◌, nat_lt, List, [], ◌∷◌, ◌++◌, length, take, drop, replicate, Option, Some, None, Result, Ok, Err, if◌then◌else◌}
 use Rattle.std.specs.List.{flat_map, AllByRecursion}
 use Rattle.std.specs.Int.{w32, to_be_bytes, from_be_bytes}
@@ -26,15 +26,18 @@ pub record AreAcks (acks : Acks) : Type 0 where
   pub count : acks.count ≤ 8
   pub zeros : drop acks.count acks.ids ≡ replicate (8 - acks.count) 0
 
+-- what a view shows
 abbrev pub control_form : ControlView → ControlForm
 control_form v = record { ids = acked v.acks; remote = v.remote; id = v.id; payload = v.payload.now }
 
 -- ---- spelling
 
+-- the eight bytes of a session id, if there is one
 abbrev pub sid_bytes : Option Sid → List ℕ
 sid_bytes None = []
 sid_bytes (Some sid) = sid.0
 
+-- the four bytes of a packet id, if there is one
 abbrev pub id_bytes : Option ℕ → List ℕ
 id_bytes None = []
 id_bytes (Some id) = to_be_bytes w32 id
@@ -144,11 +147,12 @@ IsCutOff op (count ∷ rest) = (count ≤ 8) × ((length rest < 4 * count)
 abbrev pub sent_remote : ℕ → Sid → Option Sid
 sent_remote count remote = if count == 0 then None else Some remote
 
--- the packet id and the payload, where the opcode has them
+-- the packet id, where the opcode has one
 abbrev pub sent_id : Opcode → ℕ → Option ℕ
 sent_id Ack id = None
 sent_id op id = Some id
 
+-- the payload, where the opcode has one
 abbrev pub sent_payload : Opcode → List ℕ → List ℕ
 sent_payload Ack payload = []
 sent_payload op payload = payload

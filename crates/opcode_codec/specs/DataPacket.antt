@@ -1,4 +1,4 @@
--- Data packets (OpenVPN wire protocol, P_DATA_V2).
+-- Data packets (OpenVPN network protocol, structure of data channel messages).
 use Rattle.std.specs.Prelude.{◌≡◌, ℕ, ◌+◌, ◌/◌, ◌%◌, ◌^◌, ◌<◌, List, [], ◌∷◌, ◌++◌, length, take, drop}
 use Rattle.std.specs.Int.{w32, to_be_bytes, from_be_bytes}
 use Rattle.opcode_codec.specs.declared.packets.DataView.{DataView}
@@ -18,6 +18,7 @@ pub record IsData (f : DataForm) : Type 0 where
   pub id : f.id < 2 ^ 32
   pub tag : length f.tag ≡ 16
 
+-- what a view shows
 abbrev pub data_form : DataView → DataForm
 data_form v = record { kid = v.kid; peer = v.peer; id = v.id; tag = v.tag; sealed = v.sealed.now }
 

@@ -1,4 +1,4 @@
--- The first byte of a packet (OpenVPN wire protocol, packet opcodes).
+-- The first byte of a packet (OpenVPN network protocol, message types).
 use Rattle.std.specs.Prelude.{ℕ, ◌+◌, ◌*◌, ◌/◌, ◌==◌, Option, Some, None, if◌then◌else◌}
 use Rattle.opcode_codec.specs.declared.opcodes.Opcode.{Opcode}
 use Rattle.opcode_codec.specs.declared.opcodes.Opcode.TheVariants.{SoftReset, Control, Ack, ClientReset, ServerReset, DataV2}

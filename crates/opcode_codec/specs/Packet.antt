@@ -1,4 +1,4 @@
--- Which bytes are which packet (OpenVPN wire protocol, control channel and data channel packets).
+-- Which bytes are which packet (OpenVPN network protocol, message structure).
 use Rattle.std.specs.Prelude.{◌≡◌, ◌≢◌, ℕ, ◌%◌, ◌<◌, ◌≤◌, nat_lt, List, [], ◌∷◌, ◌++◌, length, take, Option, Some, None, Result, Ok, Err, if◌then◌else◌}
 use Rattle.std.specs.Int.{w32, to_be_bytes}
 use Rattle.vpn_base.specs.declared.names.Sid.{Sid}
@@ -42,12 +42,15 @@ pub data PacketForm : Type 0 where
   Wrapped : Opcode → ℕ → Sid → PacketForm
   Inner : DataForm → PacketForm
 
+-- a data packet as a packet
 abbrev pub data_packet_form : DataForm → PacketForm
 data_packet_form f = Inner f
 
+-- what is read of a wrapped control packet: the rest is for the unwrapping
 abbrev pub wrapped_packet_form : WrappedForm → PacketForm
 wrapped_packet_form w = Wrapped w.op w.kid w.sid
 
+-- what a packet shows
 abbrev pub packet_form : Packet → PacketForm
 packet_form (packets.Wrapped op kid sid) = Wrapped op kid sid
 packet_form (packets.Inner view) = Inner (data_form view)
@@ -62,11 +65,12 @@ abbrev pub shortest : Opcode → ℕ
 shortest DataV2 = 24
 shortest op = 49
 
--- a packet of this opcode, by its first byte and the bytes behind it
+-- the packet of this opcode, by its first byte and the bytes behind it
 abbrev pub form_behind : Opcode → ℕ → List ℕ → PacketForm
 form_behind DataV2 first rest = Inner (data_of (first % 8) rest)
 form_behind op first rest = Wrapped op (first % 8) (record { 0 = take 8 rest })
 
+-- the same where the opcode is served and enough bytes are there
 abbrev pub packet_with : Option Opcode → ℕ → List ℕ → Result PacketForm Malformed
 packet_with None first rest = Err (faults.Opcode first)
 packet_with (Some op) first rest =
@@ -86,6 +90,7 @@ abbrev pub IsCutBehind : Option Opcode → ℕ → Type 0
 IsCutBehind None n = ⊥
 IsCutBehind (Some op) n = n < shortest op
 
+-- the bytes begin a packet and end before it is whole
 abbrev pub IsCut : List ℕ → Type 0
 IsCut [] = ⊥
 IsCut (first ∷ rest) = IsCutBehind (opcode_of first) (length (first ∷ rest))

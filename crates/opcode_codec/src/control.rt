@@ -9,8 +9,8 @@ use crate::fields::{array_of, number_at};
 use crate::opcodes::Opcode;
 use vpn_base::{Acks, Malformed, Sid};
 
-/// The plain text of a control packet, seen in its bytes (OpenVPN wire protocol, control channel
-/// packets).
+/// The plain text of a control packet, seen in its bytes (OpenVPN network protocol, plaintext
+/// control channel messages).
 #[derive(Clone, Copy, Debug, PartialEq, Eq)]
 pub struct ControlView<'a> {
     /// The packet ids that are acknowledged. The ids that do not count are 0.
@@ -104,11 +104,11 @@ fn read_text(plain: &[u8], op: Opcode) -> Result<ControlView<'_>, Malformed>
     read_behind_ids(op, Acks { count, ids }, &rest[ids_end..])
 }
 
-/// The plain text that the bytes are, of a packet of this opcode (OpenVPN wire protocol, control
-/// channel packets). Bytes after the last field of ACK_V1 are ignored; of every other opcode the text
-/// has a packet id, and the payload goes to the end. Acks comes exactly where more than 8 ids are
-/// acknowledged, NoRemote exactly where the ids are there and the receiver's session id behind them is
-/// cut off, and Short exactly where another field is cut off. No other error comes.
+/// The plain text that the bytes are, of a packet of this opcode (OpenVPN network protocol, plaintext
+/// control channel messages). Bytes after the last field of ACK_V1 are ignored; of every other opcode
+/// the text has a packet id, and the payload goes to the end. Acks comes exactly where more than 8 ids
+/// are acknowledged, NoRemote exactly where the ids are there and the receiver's session id behind them
+/// is cut off, and Short exactly where another field is cut off. No other error comes.
 pub fn read_control(plain: &[u8], op: Opcode) -> Result<ControlView<'_>, Malformed>
     ensures exact { seen_control result ≡ control_of op plain.now }
 
@@ -191,9 +191,9 @@ fn put_fields(out: &mut [u8], end: usize, op: Opcode, id: u32, payload: &[u8]) -
 }
 
 /// Writes the plain text of a control packet of this opcode to the front of `out`, and answers how many
-/// bytes it has (OpenVPN wire protocol, control channel packets). The receiver's session id is written
-/// where packet ids are acknowledged; the packet id and the payload are written of every opcode but
-/// ACK_V1. The bytes behind it stay.
+/// bytes it has (OpenVPN network protocol, plaintext control channel messages). The receiver's session
+/// id is written where packet ids are acknowledged; the packet id and the payload are written of every
+/// opcode but ACK_V1. The bytes behind it stay.
 pub fn write_control(
     op: Opcode,
     acks: &Acks,

@@ -3,7 +3,7 @@
 ghost use Rattle.std.specs.Prelude.{◌≡◌, ◌<◌};
 ghost use Rattle.opcode_codec.specs.FirstByte.{code, opcode_of, first_byte};
 
-/// What kind of packet it is (OpenVPN wire protocol, packet opcodes).
+/// What kind of packet it is (OpenVPN network protocol, message types).
 #[derive(Clone, Copy, Debug, PartialEq, Eq)]
 pub enum Opcode {
     /// SOFT_RESET_V1: new keys within a session.

@@ -1,24 +1,17 @@
-//! Packets of the wire protocol spelled by hand.
+//! Packets spelled by hand.
+
+ghost use Rattle.std.specs.Prelude.{◌≡◌};
 
 use super::*;
 use vpn_base::{Acks, Malformed, Sid};
 
 const SID: Sid = Sid([0xA1, 0xA2, 0xA3, 0xA4, 0xA5, 0xA6, 0xA7, 0xA8]);
 
-// A packet of 49 bytes with this first byte, and the session id behind it.
-fn packet_beginning(first: u8) -> [u8; 49] {
-    let mut packet = [0; 49];
-    packet[0] = first;
-    packet[1] = 0xA1;
-    packet[2] = 0xA2;
-    packet[3] = 0xA3;
-    packet[4] = 0xA4;
-    packet[5] = 0xA5;
-    packet[6] = 0xA6;
-    packet[7] = 0xA7;
-    packet[8] = 0xA8;
-    packet
-}
+// A client reset of 49 bytes, with its session id behind the first.
+const CLIENT_RESET: [u8; 49] = [
+    0x38, 0xA1, 0xA2, 0xA3, 0xA4, 0xA5, 0xA6, 0xA7, 0xA8, 0, 0, 0, 0, 0, 0, 0, 0, 0, 0, 0, 0, 0, 0,
+    0, 0, 0, 0, 0, 0, 0, 0, 0, 0, 0, 0, 0, 0, 0, 0, 0, 0, 0, 0, 0, 0, 0, 0, 0, 0,
+];
 
 #[test]
 fn every_opcode_is_served_or_refused(rt: HostRuntime) {
@@ -31,22 +24,19 @@ fn every_opcode_is_served_or_refused(rt: HostRuntime) {
         (0x2F, Opcode::Ack, 7),
     ];
     for (first, op, kid) in served {
-        let packet = packet_beginning(first);
+        let mut packet = CLIENT_RESET;
+        packet[0] = first;
         assert_eq!(rt;
             read_packet(&packet),
             Ok(Packet::Wrapped { op, kid, sid: SID }),
-            "at {first}"
-        );
-        assert_eq!(rt;
-            read_packet(&packet[..48]),
-            Err(Malformed::Short),
             "at {first}"
         );
     }
     for number in 0..32u8 {
         let first = number * 8;
         let is_served = matches!(number, 3 | 4 | 5 | 7 | 8 | 9);
-        let packet = packet_beginning(first);
+        let mut packet = CLIENT_RESET;
+        packet[0] = first;
         assert_eq!(rt; read_packet(&packet).is_ok(), is_served, "opcode {number}");
         if !is_served {
             assert_eq!(rt;
@@ -55,13 +45,14 @@ fn every_opcode_is_served_or_refused(rt: HostRuntime) {
                 "opcode {number}"
             );
             assert_eq!(rt;
-                read_packet(&packet[..1]),
+                read_packet(&[first]),
                 Err(Malformed::Opcode { first }),
                 "opcode {number}"
             );
         }
     }
     assert_eq!(rt; read_packet(&[]), Err(Malformed::Empty));
+    assert_eq!(rt; read_packet(&CLIENT_RESET[..48]), Err(Malformed::Short));
     assert_eq!(rt; read_packet(&[0x48]), Err(Malformed::Short));
 }
 

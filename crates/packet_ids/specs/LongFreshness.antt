@@ -1,4 +1,4 @@
--- Whether a pair of time and id may be accepted, by everything that was accepted before (OpenVPN wire protocol, replay protection of the control channel).
+-- Whether a pair of time and id may be accepted, by everything that was accepted before (OpenVPN network protocol, replay protection of the control channel).
 use Rattle.std.specs.Prelude.{ℕ, ◌==◌, nat_lt, max, Bool, true, false, List, [], ◌∷◌, ◌++◌, if◌then◌else◌}
 use Rattle.vpn_base.specs.declared.names.Moment.{Moment}
 use Rattle.vpn_base.specs.declared.names.Freshness.{Freshness}

@@ -12,6 +12,7 @@ pub record IsLongKeptOf (w : LongWindow) (h : LongHistory) : Type 0 where
   pub time : w.time ≡ latest h.accepted
   pub window : Stands w.window (at_time h (latest h.accepted))
 
+-- the same as one word, which callers do not look into
 unfoldable pub LongStands : LongWindow → LongHistory → Type 0
 LongStands w h = IsLongKeptOf w h
 

@@ -29,17 +29,21 @@ after_all (e ∷ es) h = after_all es (after h e)
 abbrev pub WrapId : Type 0
 WrapId = ℕ × ℕ × Moment
 
+-- the history after a pair that was judged so
 abbrev pub long_judged_so : Freshness → LongHistory → WrapId → LongHistory
 long_judged_so Fresh h e = long_recorded h e.0 e.1 e.2
 long_judged_so other h e = h
 
+-- the history after a pair came
 abbrev pub long_after : LongHistory → WrapId → LongHistory
 long_after h e = long_judged_so (long_freshness h e.0 e.1 e.2) h e
 
+-- the answer to each pair, in order
 abbrev pub long_answers_to : List WrapId → LongHistory → List Freshness
 long_answers_to [] h = []
 long_answers_to (e ∷ es) h = long_freshness h e.0 e.1 e.2 ∷ long_answers_to es (long_after h e)
 
+-- the history after all of them
 abbrev pub long_after_all : List WrapId → LongHistory → LongHistory
 long_after_all [] h = h
 long_after_all (e ∷ es) h = long_after_all es (long_after h e)

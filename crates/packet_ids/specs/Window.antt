@@ -37,6 +37,7 @@ pub record IsKeptOf (w : Kept) (h : History) : Type 0 where
   pub near : (e : Accepted) → HasEntry h.accepted e → greatest_id h.accepted - e.0 < h.width → HasEntry w.kept e
   pub only : (e : Accepted) → HasEntry w.kept e → HasEntry h.accepted e
 
+-- the same as one word, which callers do not look into
 unfoldable pub Stands : Kept → History → Type 0
 Stands w h = IsKeptOf w h
 

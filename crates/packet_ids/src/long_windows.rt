@@ -9,7 +9,7 @@ use crate::windows::Window;
 use std::alloc::Global;
 use vpn_base::{Freshness, Moment, NoMemory};
 
-/// The anti-replay window of one sender's pairs of time and id (OpenVPN wire protocol, replay
+/// The anti-replay window of one sender's pairs of time and id (OpenVPN network protocol, replay
 /// protection of the control channel). Its contract is over every pair that was ever accepted.
 #[derive(Drop)]
 pub struct LongWindow {
