@@ -3,3 +3,4 @@ pub mod Rooms
 pub mod Standing
 pub mod LongStanding
 pub mod RunLaws
+pub mod Once

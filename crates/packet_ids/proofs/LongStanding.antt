@@ -19,14 +19,14 @@ of_time_when true x es more = refl
 of_time_when false x es more = refl
 
 -- one pair more of this time
-of_time-push : (time : ℕ) (es : List LongAccepted) (e : LongAccepted) → e.time ≡ time → of_time time (es ++ e ∷ []) ≡ of_time time es ++ (e.id, e.moment) ∷ []
+pub of_time-push : (time : ℕ) (es : List LongAccepted) (e : LongAccepted) → e.time ≡ time → of_time time (es ++ e ∷ []) ≡ of_time time es ++ (e.id, e.moment) ∷ []
 of_time-push time [] e same = let yes : eqb e.time time ≡ true = grind arith in rw yes refl
 of_time-push time (x ∷ es) e same =
     ap (λ (t : List Accepted). cond (eqb x.time time) ((x.id, x.moment) ∷ t) t) (of_time-push time es e same)
     ∙ of_time_when (eqb x.time time) (x.id, x.moment) (of_time time es) ((e.id, e.moment) ∷ [])
 
 -- no pair has a time above the latest
-of_time_above : (time : ℕ) (es : List LongAccepted) → latest es < time → of_time time es ≡ []
+pub of_time_above : (time : ℕ) (es : List LongAccepted) → latest es < time → of_time time es ≡ []
 of_time_above time [] above = refl
 of_time_above time (x ∷ es) above =
     let no : eqb x.time time ≡ false = grind arith in rw no (of_time_above time es (omega arith))

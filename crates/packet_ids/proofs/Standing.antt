@@ -82,7 +82,8 @@ pub record IsFresh (w : Kept) (id : ℕ) : Type 0 where
   pub close : w.greatest - id < w.width
   pub unseen : was_accepted w.kept id ≡ false
 
-fresh_when : (zero old seen late : Bool) → cond zero Zero (cond old Old (cond seen Seen (cond late Late Fresh))) ≡ Fresh → (zero ≡ false) × (old ≡ false) × (seen ≡ false)
+-- a fresh answer says no to the first three questions
+pub fresh_when : (zero old seen late : Bool) → cond zero Zero (cond old Old (cond seen Seen (cond late Late Fresh))) ≡ Fresh → (zero ≡ false) × (old ≡ false) × (seen ≡ false)
 fresh_when true old seen late h = absurd cc
 fresh_when false true seen late h = absurd cc
 fresh_when false false true late h = absurd cc

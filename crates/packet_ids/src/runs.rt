@@ -1,11 +1,11 @@
 //! Whole runs of ids through a fresh window.
 
-ghost use Rattle.std.specs.Prelude.{◌≡◌, ◌≤◌, ◌∷◌, [], IfOk};
-ghost use Rattle.packet_ids.specs.Freshness.{History, begun, freshness};
-ghost use Rattle.packet_ids.specs.Window.{Stands};
-ghost use Rattle.packet_ids.specs.LongFreshness.{LongHistory, long_begun, long_freshness};
+ghost use Rattle.std.specs.Prelude.{◌≡◌, ◌≤◌, ◌∷◌, [], ℕ, List, IfOk};
+ghost use Rattle.packet_ids.specs.Freshness.{Accepted, History, begun, freshness};
+ghost use Rattle.packet_ids.specs.Window.{AreDistinct, Stands};
+ghost use Rattle.packet_ids.specs.LongFreshness.{LongHistory, long_begun, long_freshness, of_time};
 ghost use Rattle.packet_ids.specs.LongWindows.{LongStands};
-ghost use Rattle.packet_ids.specs.Runs.{after, answers_to, long_after, long_answers_to};
+ghost use Rattle.packet_ids.specs.Runs.{WrapId, after, after_all, answers_to, long_after, long_after_all, long_answers_to};
 
 use crate::long_windows::LongWindow;
 use crate::windows::Window;
@@ -73,3 +73,13 @@ pub fn judge_wrap_ids(
     }
     Ok(answers)
 }
+
+/// No id is accepted twice, whatever ids come in whatever order.
+pub fn accepts_ids_once()
+    ensures { (n t : ℕ) (arrivals : List Accepted) → AreDistinct (after_all arrivals (begun n t)).accepted }
+{}
+
+/// No pair of time and id is accepted twice: of each time, every id is accepted once at most.
+pub fn accepts_wrap_ids_once()
+    ensures { (n t : ℕ) (arrivals : List WrapId) (time : ℕ) → AreDistinct (of_time time (long_after_all arrivals (long_begun n t)).accepted) }
+{}
