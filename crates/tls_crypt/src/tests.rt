@@ -65,14 +65,14 @@ fn wraps<W: Wrap>(
     plain: &[u8],
     digest: (u128, u128),
 ) {
-    assert!(rt; plain.len() <= 1100);
+    assert!(rt; plain.len() <= 1200);
     let Header {
         first,
         sid,
         id,
         time,
     } = header;
-    let mut buffer = [0xeeu8; 1200];
+    let mut buffer = [0xeeu8; 1300];
     let len = own.wrap(first, sid, id, time, plain, &mut buffer);
     assert_eq!(rt; len, plain.len() + 49);
     assert!(rt; buffer[len..].iter().all(|byte| *byte == 0xee));
@@ -99,8 +99,8 @@ fn wraps<W: Wrap>(
 #[test]
 fn packets_of_both_ends(rt: HostRuntime) {
     let key = counting_key();
-    let mut counting = [0u8; 1100];
-    for k in 0..1100usize {
+    let mut counting = [0u8; 1200];
+    for k in 0..1200usize {
         counting[k] = (k % 251) as u8;
     }
     let reset = [0u8; 5];
@@ -165,6 +165,66 @@ fn packets_of_both_ends(rt: HostRuntime) {
             0x8690_eb8b_78da_7ab2_fa53_8b57_2ceb_67f9,
             0x6426_3d6a_494d_e9bb_5842_0f15_e612_aa31,
         ),
+        (
+            Role::Server,
+            Role::Client,
+            0x20,
+            1,
+            0x6500_0000,
+            1,
+            0x7134_2809_b597_294b_3276_8f17_91ae_f27d,
+            0x0b90_efdb_eaa6_dc01_e939_9496_18a6_5e61,
+        ),
+        (
+            Role::Server,
+            Role::Client,
+            0x20,
+            100,
+            0x6500_0000,
+            100,
+            0xe7e1_ad75_8687_5178_c8ef_02f0_b7fe_9508,
+            0xb0f1_358c_77e3_d726_fd7e_e02e_da08_322a,
+        ),
+        (
+            Role::Server,
+            Role::Client,
+            0x20,
+            1200,
+            0x6500_0000,
+            1200,
+            0x5731_5eb3_cdf4_d995_e33b_e579_e01e_598d,
+            0xc22f_f375_12fa_2be7_135f_c35b_cd39_108d,
+        ),
+        (
+            Role::Client,
+            Role::Server,
+            0x20,
+            1,
+            0x6500_0000,
+            1,
+            0xf326_b2c7_dda2_5656_811b_255f_03a0_2758,
+            0x3be7_cb7e_f99d_98c4_36e5_4479_eae4_f7f4,
+        ),
+        (
+            Role::Client,
+            Role::Server,
+            0x20,
+            100,
+            0x6500_0000,
+            100,
+            0xeda6_96bb_777d_03bc_586f_4b59_978b_8414,
+            0x06ab_a844_4c71_07c1_60e8_521e_8076_7e2a,
+        ),
+        (
+            Role::Client,
+            Role::Server,
+            0x20,
+            1200,
+            0x6500_0000,
+            1200,
+            0x175b_8bf8_fc1a_30be_a034_1f52_a3c1_a72c,
+            0x52e7_6b47_9cb2_e5bf_e510_92c6_6f2a_51ee,
+        ),
     ] {
         let header = Header {
             first,
@@ -172,7 +232,7 @@ fn packets_of_both_ends(rt: HostRuntime) {
             id,
             time,
         };
-        assert!(rt; len <= 1100);
+        assert!(rt; len <= 1200);
         let plain = if len == 5 {
             &reset[..]
         } else {
