@@ -4,7 +4,7 @@ use Rattle.std.specs.Option.{option_or, option_map_or}
 use Rattle.std.specs.List.{slice_split, starts_with, list_any}
 use Rattle.std.specs.Str.{bytes_eq}
 use Rattle.vpn_base.specs.declared.names.Cipher.{Cipher}
-use Rattle.vpn_base.specs.declared.names.Cipher.TheVariants.{Aes128Gcm, Aes256Gcm}
+use Rattle.vpn_base.specs.CipherName.{cipher_name}
 
 -- what stands behind an equals sign
 abbrev pub behind_equals : List ℕ → Option (List ℕ)
@@ -24,15 +24,10 @@ first_value name (line ∷ lines) = option_or (value_in name line) (first_value 
 unfoldable pub value_of : List ℕ → List ℕ → Option (List ℕ)
 value_of info name = first_value name (slice_split (λ byte. byte == 10) info)
 
--- the name of a cipher in a list of them
-abbrev pub name_of : Cipher → List ℕ
-name_of Aes128Gcm = codes "AES-128-GCM"
-name_of Aes256Gcm = codes "AES-256-GCM"
-
 -- whether this is one of the names, joined by colons
 abbrev pub is_named : List ℕ → List ℕ → Bool
 is_named name names = list_any (λ piece. bytes_eq piece name) (slice_split (λ byte. byte == 58) names)
 
 -- whether the peer info offers a cipher: IV_CIPHERS names it
 unfoldable pub offers : List ℕ → Cipher → Bool
-offers info cipher = option_map_or (is_named (name_of cipher)) (value_of info (codes "IV_CIPHERS")) false
+offers info cipher = option_map_or (is_named (cipher_name cipher)) (value_of info (codes "IV_CIPHERS")) false

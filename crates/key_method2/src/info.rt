@@ -2,7 +2,7 @@
 
 ghost use Rattle.std.specs.Prelude.{◌≡◌, find};
 ghost use Rattle.std.specs.Option.{option_copied};
-ghost use Rattle.key_method2.specs.Info.{value_in, value_of, name_of, is_named, offers};
+ghost use Rattle.key_method2.specs.Info.{value_in, value_of, is_named, offers};
 
 use vpn_base::{Cipher, split_once};
 
@@ -36,16 +36,6 @@ pub fn info_value<'a>(info: &'a [u8], name: &[u8]) -> Option<&'a [u8]>
     value_in_line(rest, name)
 }
 
-// The name of a cipher in a list of them.
-fn cipher_name(cipher: Cipher) -> &'static [u8]
-    ensures { result.now ≡ name_of cipher }
-{
-    match cipher {
-        Cipher::Aes128Gcm => b"AES-128-GCM",
-        Cipher::Aes256Gcm => b"AES-256-GCM",
-    }
-}
-
 // Whether a name is one of those that are joined by colons.
 fn is_one_of(names: &[u8], name: &[u8]) -> bool
     ensures { result ≡ is_named name.now names.now }
@@ -71,6 +61,6 @@ pub fn choose_cipher(ours: &[Cipher], info: &[u8]) -> Option<Cipher>
         Some(names) => ours
             .iter()
             .copied()
-            .find(|cipher| is_one_of(names, cipher_name(*cipher))),
+            .find(|cipher| is_one_of(names, cipher.name())),
     }
 }

@@ -14,7 +14,8 @@ use Rattle.vpn_base.specs.declared.names.Malformed.TheVariants as faults
 use Rattle.opcode_codec.specs.declared.opcodes.Opcode.{Opcode}
 use Rattle.opcode_codec.specs.declared.opcodes.Opcode.TheVariants.{Ack}
 use Rattle.opcode_codec.specs.declared.control.ControlView.{ControlView}
-use Rattle.opcode_codec.specs.ControlText.{ControlForm, control_form, sid_bytes, id_bytes, control_text, IsRemote, AreFields, IsControlText, MayFollow, IsTextOf, numbers_at, fields_at, behind_ids, control_of, seen_control, acked, sent_remote, sent_id, sent_payload, sent_form, HasManyAcks, remote_length, id_length, LacksRemote, IsCutOff}
+use Rattle.vpn_base.specs.Acks.{acked}
+use Rattle.opcode_codec.specs.ControlText.{ControlForm, control_form, sid_bytes, id_bytes, control_text, IsRemote, AreFields, IsControlText, MayFollow, IsTextOf, numbers_at, fields_at, behind_ids, control_of, seen_control, sent_remote, sent_id, sent_payload, sent_form, HasManyAcks, remote_length, id_length, LacksRemote, IsCutOff}
 use Rattle.opcode_codec.proofs.Readings.{IsBytes, IsBytes-take, IsBytes-drop, cut, whole, enough, below}
 
 -- an error is seen as it is

@@ -1,9 +1,10 @@
 -- The plain text of a control packet (OpenVPN network protocol, plaintext control channel messages).
-use Rattle.std.specs.Prelude.{◌≡◌, ◌⊎◌, ℕ, zero, suc, ◌+◌, ◌-◌, ◌*◌, ◌^◌, ◌<◌, ◌≤◌, ◌==◌, nat_lt, List, [], ◌∷◌, ◌++◌, length, take, drop, replicate, Option, Some, None, Result, Ok, Err, if◌then◌else◌}
+use Rattle.std.specs.Prelude.{◌≡◌, ◌⊎◌, ℕ, zero, suc, ◌+◌, ◌*◌, ◌^◌, ◌<◌, ◌≤◌, ◌==◌, nat_lt, List, [], ◌∷◌, ◌++◌, length, take, drop, Option, Some, None, Result, Ok, Err, if◌then◌else◌}
 use Rattle.std.specs.List.{flat_map, AllByRecursion}
 use Rattle.std.specs.Int.{w32, to_be_bytes, from_be_bytes}
 use Rattle.vpn_base.specs.declared.names.Sid.{Sid}
 use Rattle.vpn_base.specs.declared.names.Acks.{Acks}
+use Rattle.vpn_base.specs.Acks.{acked}
 use Rattle.vpn_base.specs.declared.names.Malformed.{Malformed}
 use Rattle.vpn_base.specs.declared.names.Malformed.TheVariants as faults
 use Rattle.opcode_codec.specs.declared.opcodes.Opcode.{Opcode}
@@ -16,15 +17,6 @@ pub record ControlForm : Type 0 where
   pub remote : Option Sid
   pub id : Option ℕ
   pub payload : List ℕ
-
--- the ids that are acknowledged
-abbrev pub acked : Acks → List ℕ
-acked acks = take acks.count acks.ids
-
--- at most 8 ids count, and those that don't are 0
-pub record AreAcks (acks : Acks) : Type 0 where
-  pub count : acks.count ≤ 8
-  pub zeros : drop acks.count acks.ids ≡ replicate (8 - acks.count) 0
 
 -- what a view shows
 abbrev pub control_form : ControlView → ControlForm

@@ -3,7 +3,8 @@
 ghost use Rattle.std.specs.Prelude.{◌≡◌, ◌+◌, ◌-◌, ◌*◌, ◌^◌, ◌<◌, ◌≤◌, ◌↔◌, [], ◌∷◌, ◌++◌, ℕ, List, length, take, drop, replicate, Ok, IfOk, IsErrOf};
 ghost use Rattle.std.specs.List.{flat_map, AllByRecursion};
 ghost use Rattle.std.specs.Int.{w32, to_be_bytes};
-ghost use Rattle.opcode_codec.specs.ControlText.{ControlForm, AreAcks, IsControlText, MayFollow, IsTextOf, HasManyAcks, LacksRemote, IsCutOff, acked, sid_bytes, id_bytes, control_form, control_text, numbers_at, fields_at, behind_ids, control_of, seen_control, sent_remote, sent_id, sent_payload, sent_form, with_front};
+ghost use Rattle.vpn_base.specs.Acks.{AreAcks, acked};
+ghost use Rattle.opcode_codec.specs.ControlText.{ControlForm, IsControlText, MayFollow, IsTextOf, HasManyAcks, LacksRemote, IsCutOff, sid_bytes, id_bytes, control_form, control_text, numbers_at, fields_at, behind_ids, control_of, seen_control, sent_remote, sent_id, sent_payload, sent_form, with_front};
 
 use crate::fields::{array_of, number_at};
 use crate::opcodes::Opcode;

@@ -33,3 +33,11 @@ pub(crate) fn opcode_of(first: u8) -> Option<Opcode>
         _ => None,
     }
 }
+
+/// The first byte of a packet of this opcode and key id.
+pub fn first_byte(op: Opcode, kid: u8) -> u8
+    requires { kid < 8 }
+    ensures { result ≡ first_byte op kid }
+{
+    op as u8 * 8 + kid
+}

@@ -6,7 +6,7 @@ ghost use Rattle.opcode_codec.specs.DataPacket.{DataForm, IsData, data_form, dat
 ghost use Rattle.opcode_codec.specs.Packet.{WrappedForm, IsWrapped, wrapped_packet, packet_of, seen, BeginsWith, IsCut, IsSpelled, data_packet_form, wrapped_packet_form};
 
 use crate::fields::{array_of, number_at};
-use crate::opcodes::{Opcode, opcode_of};
+use crate::opcodes::{Opcode, first_byte, opcode_of};
 use vpn_base::{Malformed, Sid};
 
 /// A data packet, seen in its datagram (OpenVPN network protocol, structure of data channel messages).
@@ -120,7 +120,7 @@ pub fn write_data_head(kid: u8, peer: u32, id: u32) -> [u8; 8]
     let [_, high, middle, low] = peer.to_be_bytes();
     let [a, b, c, d] = id.to_be_bytes();
     [
-        Opcode::DataV2 as u8 * 8 + kid,
+        first_byte(Opcode::DataV2, kid),
         high,
         middle,
         low,

@@ -3,7 +3,7 @@ use Rattle.std.proofs.Common.{◌≡◌, ℕ, ◌<◌, ◌==◌, Bool, true, fal
 use Rattle.std.specs.Prelude.{cond}
 use Rattle.std.specs.List.{slice_split, onto_first, join_with_byte}
 use Rattle.std.proofs.lemmas.List.Splits.{length-slice_split, join_with_byte-slice_split}
-use Rattle.route_file.specs.Lines.{lines_of_parts, lines_of}
+use Rattle.vpn_base.specs.Lines.{lines_of_parts, lines_of}
 use Rattle.route_file.specs.Progress.{IsOneLine}
 
 -- a text has a part

@@ -4,7 +4,7 @@ use Rattle.std.specs.Prelude.{Some, Err, cond, ◌⊎◌, take, slice_index, nat
 use Rattle.std.specs.List.{slice_split}
 use Rattle.schedule_text.specs.declared.kind.TextKind.TheVariants as kinds
 use Rattle.schedule_text.specs.RouteLine.{route_line, longest_line}
-use Rattle.route_file.specs.Lines.{Line, lines_of, lines_of_parts, content, size}
+use Rattle.vpn_base.specs.Lines.{Line, lines_of, lines_of_parts, content, size}
 use Rattle.route_file.specs.Output.{judged, longest_file}
 use Rattle.route_file.specs.Progress.{Progress, outcome_with, IsOneLine, Ends}
 use Rattle.route_file.proofs.Cuts.{split_append, has_part, one_line_append}

@@ -5,7 +5,7 @@ use Rattle.vpn_base.specs.declared.errors.Or.{Or}
 use Rattle.vpn_base.specs.declared.errors.Or.TheVariants.{Memory, Why}
 use Rattle.schedule_text.specs.declared.kind.TextKind.{TextKind}
 use Rattle.route_file.specs.declared.state.RouteFault.{RouteFault}
-use Rattle.route_file.specs.Lines.{Line, lines_of}
+use Rattle.vpn_base.specs.Lines.{Line, lines_of}
 use Rattle.route_file.specs.Output.{Outcome, outcome_from, printed_before, empty_table, routes}
 use Rattle.route_file.specs.Progress.{Progress, outcome_of, outcome_with, IsOneLine, Ends, Refuses}
 use Rattle.route_file.proofs.Cuts.{lines_ended, lines_last, lines_none}

@@ -5,7 +5,7 @@ use Rattle.schedule_text.specs.declared.kind.TextKind.{TextKind}
 use Rattle.schedule_text.specs.declared.kind.TextKind.TheVariants as kinds
 use Rattle.schedule_text.specs.declared.route_line.RouteLine.{RouteLine}
 use Rattle.schedule_text.specs.RouteLine.{route_line}
-use Rattle.route_file.specs.Lines.{Line, content, size}
+use Rattle.vpn_base.specs.Lines.{Line, content, size}
 use Rattle.route_file.specs.Output.{outcome_from, judged, answer, after, longest_file}
 use Rattle.route_file.specs.Progress.{Progress, outcome_of, Ends}
 

@@ -1,4 +1,3 @@
-pub mod Lines
 pub mod Keys
 pub mod Opening
 pub mod Seals

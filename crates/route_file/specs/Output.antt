@@ -13,7 +13,7 @@ use Rattle.schedule_text.specs.declared.route_line.RouteLine.{RouteLine}
 use Rattle.schedule_text.specs.declared.route_line.RouteLine.TheVariants as lines
 use Rattle.schedule_text.specs.RouteLine.{route_line}
 use Rattle.route_file.specs.Keys.{PacketKey, key_at, with_key}
-use Rattle.route_file.specs.Lines.{Line, lines_of, content, size}
+use Rattle.vpn_base.specs.Lines.{Line, lines_of, content, size}
 use Rattle.route_file.specs.Seals.{seal_text, unseal_text}
 
 -- the longest file, in bytes

@@ -5,7 +5,7 @@ use Rattle.vpn_base.specs.declared.errors.Or.{Or}
 use Rattle.vpn_base.specs.declared.errors.Or.TheVariants.{Memory, Why}
 use Rattle.schedule_text.specs.declared.kind.TextKind.{TextKind}
 use Rattle.route_file.specs.declared.state.RouteFault.{RouteFault}
-use Rattle.route_file.specs.Lines.{Line, lines_of}
+use Rattle.vpn_base.specs.Lines.{Line, lines_of}
 use Rattle.route_file.specs.Output.{Table, Outcome, printed_before, outcome_from}
 
 -- what was printed and not taken yet, what is set up, how many lines were read and their bytes, and the front of the next line

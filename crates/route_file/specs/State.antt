@@ -1,7 +1,7 @@
 -- The state of a reader as the progress that it stands for.
 use Rattle.std.specs.Prelude.{ℕ, List, []}
 use Rattle.std.specs.String.{string_bytes}
-use Rattle.route_file.specs.Lines.{Line}
+use Rattle.vpn_base.specs.Lines.{Line}
 use Rattle.route_file.specs.Output.{Outcome}
 use Rattle.route_file.specs.Progress.{Progress, outcome_of}
 use Rattle.route_file.specs.declared.state.State.{State}

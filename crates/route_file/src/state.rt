@@ -5,7 +5,7 @@ ghost use Rattle.std.specs.String.{string_bytes};
 ghost use Rattle.route_table.specs.Owner.{owner};
 ghost use Rattle.inner_verdict.specs.Verdict.{verdict};
 ghost use Rattle.schedule_text.specs.SealLines.{IsBounded};
-ghost use Rattle.route_file.specs.Lines.{Line, content, size};
+ghost use Rattle.vpn_base.specs.Lines.{Line, content, size};
 ghost use Rattle.route_file.specs.Output.{after, answer, verdict_text};
 ghost use Rattle.route_file.specs.Progress.{Ends, Refuses};
 

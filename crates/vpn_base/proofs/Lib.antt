@@ -1,2 +1,5 @@
 pub mod Splitting
 pub mod Digits
+pub mod Decimals
+pub mod FirstLine
+pub mod AddressText

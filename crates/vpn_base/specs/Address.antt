@@ -1,6 +1,7 @@
 -- IPv4 addresses as text.
-use Rattle.std.specs.Prelude.{ℕ, ◌+◌, ◌*◌, ◌^◌, ◌==◌, List, [], ◌∷◌, Option, Some, None}
-use Rattle.std.specs.List.{slice_split}
+use Rattle.std.specs.Prelude.{ℕ, ◌+◌, ◌*◌, ◌/◌, ◌%◌, ◌^◌, ◌==◌, List, [], ◌∷◌, Option, Some, None}
+use Rattle.std.specs.List.{slice_split, join_with_byte}
+use Rattle.std.specs.Fmt.{decimal}
 use Rattle.vpn_base.specs.declared.address.Ip4.{Ip4}
 use Rattle.vpn_base.specs.Number.{number_of}
 
@@ -17,3 +18,8 @@ of_parts _ = None
 -- the address that a text spells: four numbers of at most 255, joined by dots
 unfoldable pub ip4_of : List ℕ → Option Ip4
 ip4_of text = of_parts (slice_split (λ c. c == 46) text)
+
+-- the text that spells an address: its four bytes in decimal, joined by dots
+unfoldable pub ip4_text : Ip4 → List ℕ
+ip4_text a =
+    join_with_byte 46 (decimal (a.0 / 2 ^ 24 % 256) ∷ decimal (a.0 / 2 ^ 16 % 256) ∷ decimal (a.0 / 2 ^ 8 % 256) ∷ decimal (a.0 % 256) ∷ [])

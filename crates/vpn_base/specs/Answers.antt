@@ -12,3 +12,8 @@ Answers (Err (Why e)) wanted = wanted ≡ Err e
 -- a count that stands still at 2^64 - 1 has risen
 abbrev pub Rose : ℕ → ℕ → Type 0
 Rose before after = min (before + 1) (2 ^ 64 - 1) ≤ after
+
+-- what holds of the call's own reason, if it has one; want of memory has none
+abbrev pub IfWhy : {E : Type 0} → Or E → (E → Type 0) → Type 0
+IfWhy Memory P = Unit {0}
+IfWhy (Why e) P = P e

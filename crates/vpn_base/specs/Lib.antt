@@ -5,3 +5,7 @@ pub mod Network
 pub mod Files
 pub mod Sink
 pub mod Memory
+pub mod Acks
+pub mod Lines
+pub mod FileName
+pub mod CipherName

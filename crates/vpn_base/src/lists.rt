@@ -1,6 +1,6 @@
 //! Lists of texts and of prefixes, which contracts see as lists of their values.
 
-ghost use Rattle.std.specs.Prelude.{◌≡◌, [], ◌∷◌, ◌++◌, OnOk, OnErr, length, slice_get};
+ghost use Rattle.std.specs.Prelude.{◌≡◌, [], ◌∷◌, ◌++◌, IfOk, OnOk, OnErr, length, slice_get};
 ghost use Rattle.std.specs.Option.{option_copied};
 
 use crate::address::Prefix;
@@ -33,6 +33,17 @@ impl TextList {
         }
     }
 
+    /// A list of copies of the texts.
+    pub fn copy(&self, alloc: Global) -> Result<TextList, NoMemory>
+        ensures { IfOk result (λ l. l ≡ self.now) }
+    {
+        let mut items = Vec::new(alloc);
+        for text in &self.items {
+            items.push(Text::copy(alloc, text.as_slice())?)?;
+        }
+        Ok(TextList { items })
+    }
+
     /// Adds a text at the end. After want of memory the list is as before.
     pub fn add(&mut self, text: Text) -> Result<(), NoMemory>
         ensures ok { OnOk result (self.new ≡ self.old ++ text ∷ []) }
@@ -47,6 +58,13 @@ impl TextList {
         ensures { result ≡ length self.now }
     {
         self.items.len()
+    }
+
+    /// The texts, one behind another.
+    pub fn as_slice(&self) -> &[Text]
+        ensures { result.now ≡ self.now }
+    {
+        self.items.as_slice()
     }
 
     /// The text at this place, from 0. It is None exactly past the end.
@@ -80,6 +98,15 @@ impl RouteList {
         RouteList {
             items: Vec::new(alloc),
         }
+    }
+
+    /// A list of the same prefixes.
+    pub fn copy(&self, alloc: Global) -> Result<RouteList, NoMemory>
+        ensures { IfOk result (λ l. l ≡ self.now) }
+    {
+        Ok(RouteList {
+            items: Vec::from_slice(alloc, self.items.as_slice())?,
+        })
     }
 
     /// Adds a prefix at the end. After want of memory the list is as before.

@@ -1,5 +1,7 @@
 //! Numbers, identifiers and settings under names of their own.
 
+ghost use Rattle.std.specs.Prelude.{◌≡◌};
+
 /// The session id by which one end of a session is named on the wire.
 #[derive(Clone, Copy, Debug, PartialEq, Eq, PartialOrd, Ord)]
 pub struct Sid(pub [u8; 8]);
@@ -36,6 +38,20 @@ pub enum Cipher {
     Aes128Gcm,
     /// AES-256-GCM.
     Aes256Gcm,
+}
+
+impl Cipher {
+    ghost use Rattle.vpn_base.specs.CipherName.{cipher_name};
+
+    /// Its name, as the configuration, the peer info and a push reply have it.
+    pub fn name(self) -> &'static [u8]
+        ensures { result.now ≡ cipher_name self }
+    {
+        match self {
+            Cipher::Aes128Gcm => b"AES-128-GCM",
+            Cipher::Aes256Gcm => b"AES-256-GCM",
+        }
+    }
 }
 
 /// How the cipher of a session is found.

@@ -1,6 +1,7 @@
 //! Decimal numbers.
 
-ghost use Rattle.std.specs.Prelude.{◌≡◌, ◌≤◌, IfSome};
+ghost use Rattle.std.specs.Prelude.{◌≡◌, ℕ, ◌≤◌, ◌<◌, ◌^◌, IfSome, Some};
+ghost use Rattle.std.specs.Fmt.{decimal};
 ghost use Rattle.vpn_base.specs.Number.{number_of};
 
 /// The number that a text spells, of at most `most`. It is None exactly where the text is not
@@ -25,3 +26,9 @@ pub fn read_number(text: &[u8], most: u64) -> Option<u64>
     }
     Some(value as u64)
 }
+
+/// The decimal text that is written of a number is read as that number, under each limit that is
+/// not below it.
+pub fn reads_decimal_again()
+    ensures { (most n : ℕ) → n ≤ most → n < 2 ^ 64 → number_of most (decimal n) ≡ Some n }
+{}

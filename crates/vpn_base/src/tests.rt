@@ -98,6 +98,8 @@ fn owned_values(rt: HostRuntime) -> Result<(), Fail> {
         Bytes::of(bytes.into_vec()).as_slice(),
         b"\x00\xff".as_slice()
     );
+    assert_eq!(rt; Cipher::Aes128Gcm.name(), b"AES-128-GCM".as_slice());
+    assert_eq!(rt; Cipher::Aes256Gcm.name(), b"AES-256-GCM".as_slice());
     let text = Text::copy(alloc, b"alice")?;
     assert_eq!(rt; Text::of(text.into_vec()).as_slice(), b"alice".as_slice());
     let mut texts = TextList::new(alloc);
@@ -114,6 +116,87 @@ fn owned_values(rt: HostRuntime) -> Result<(), Fail> {
     assert_eq!(rt; routes.count(), 1);
     assert_eq!(rt; routes.item(0).map(|p| p.len()), Some(8));
     assert_eq!(rt; routes.item(1), None);
+    Ok(())
+}
+
+#[test]
+fn addresses_written(rt: HostRuntime) {
+    let cases: [(u32, &[u8]); 4] = [
+        (0, b"0.0.0.0"),
+        (0x0A08_0001, b"10.8.0.1"),
+        (0x0102_0304, b"1.2.3.4"),
+        (0xFFFF_FFFF, b"255.255.255.255"),
+    ];
+    for (a, want) in cases {
+        let mut out = [b'x'; 15];
+        let len = write_ip4(Ip4(a), &mut out);
+        assert_eq!(rt; len, want.len(), "{want:?}");
+        assert!(rt; len <= 15);
+        assert_eq!(rt; &out[..len], want);
+        assert!(rt; out[len..].iter().all(|byte| *byte == b'x'), "{want:?}");
+    }
+    reads_ip4_again();
+    reads_decimal_again();
+}
+
+#[test]
+fn names_of_files(rt: HostRuntime) {
+    let longest = [b'a'; 64];
+    let too_long = [b'a'; 65];
+    let cases: [(&[u8], bool); 14] = [
+        (b"alice", true),
+        (b"Az09_-.@", true),
+        (b".hidden", true),
+        (b"...", true),
+        (&longest, true),
+        (&too_long, false),
+        (b"", false),
+        (b".", false),
+        (b"..", false),
+        (b"a/b", false),
+        (b"a b", false),
+        (b"a\\b", false),
+        (b"a\0", false),
+        (b"\xC3\xA9", false),
+    ];
+    for (name, want) in cases {
+        assert_eq!(rt; file_name(name).is_ok(), want, "{name:?}");
+    }
+    assert_eq!(rt; file_name(b"alice"), Ok(b"alice".as_slice()));
+}
+
+#[test]
+fn first_lines(rt: HostRuntime) {
+    let cases: [(&[u8], &[u8], &[u8]); 6] = [
+        (b"one\ntwo", b"one", b"two"),
+        (b"one\r\ntwo\n", b"one", b"two\n"),
+        (b"\n\n", b"", b"\n"),
+        (b"one", b"one", b""),
+        (b"one\r", b"one\r", b""),
+        (b"one\r\r\n", b"one\r", b""),
+    ];
+    for (text, line, rest) in cases {
+        assert_eq!(rt; next_line(text), Some((line, rest)), "{text:?}");
+    }
+    assert_eq!(rt; next_line(b""), None);
+}
+
+#[test]
+fn lists_copied(rt: HostRuntime) -> Result<(), Fail> {
+    let alloc = rt.alloc();
+    let mut texts = TextList::new(alloc);
+    texts.add(Text::copy(alloc, b"one")?)?;
+    texts.add(Text::copy(alloc, b"two")?)?;
+    let same = texts.copy(alloc)?;
+    assert_eq!(rt; same.count(), 2);
+    assert_eq!(rt; same.as_slice().len(), 2);
+    assert_eq!(rt; same.item(0).map(|t| t.as_slice()), Some(b"one".as_slice()));
+    assert_eq!(rt; same.item(1).map(|t| t.as_slice()), Some(b"two".as_slice()));
+    let mut routes = RouteList::new(alloc);
+    routes.add(Prefix::new(Ip4(0x0A00_0000), 8).ok_or("a prefix")?)?;
+    let same = routes.copy(alloc)?;
+    assert_eq!(rt; same.count(), 1);
+    assert_eq!(rt; same.item(0), Prefix::new(Ip4(0x0A00_0000), 8));
     Ok(())
 }
 

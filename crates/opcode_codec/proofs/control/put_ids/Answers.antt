@@ -2,7 +2,8 @@ use Rattle.std.proofs.Common.{◌≡◌, ℕ, ◌+◌, ◌<◌, ◌^◌, [], ◌
 use Rattle.std.specs.List.{flat_map, AllByRecursion}
 use Rattle.std.specs.Int.{w32, to_be_bytes}
 use Rattle.std.proofs.lemmas.List.{take_more, flat_map_more, length-take}
-use Rattle.opcode_codec.specs.ControlText.{acked, with_front}
+use Rattle.vpn_base.specs.Acks.{acked}
+use Rattle.opcode_codec.specs.ControlText.{with_front}
 use Rattle.opcode_codec.proofs.ControlLaws.{all_push, length-flat_map}
 use Rattle.opcode_codec.proofs.control.put_ids.Goals as goal
 

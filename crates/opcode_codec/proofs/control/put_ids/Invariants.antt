@@ -1,7 +1,8 @@
 use Rattle.std.proofs.Common.{◌≡◌, ◌+◌, ◌*◌, ◌^◌, ◌<◌, ◌∷◌, take}
 use Rattle.std.specs.List.{flat_map, AllByRecursion}
 use Rattle.std.specs.Int.{w32, to_be_bytes}
-use Rattle.opcode_codec.specs.ControlText.{acked, with_front}
+use Rattle.vpn_base.specs.Acks.{acked}
+use Rattle.opcode_codec.specs.ControlText.{with_front}
 use Rattle.opcode_codec.proofs.control.put_ids.Given as goal
 
 abbrev pub invariant-loop-id : goal.invariant-loop-id

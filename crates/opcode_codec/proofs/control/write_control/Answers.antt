@@ -2,7 +2,8 @@ use Rattle.std.proofs.Common.{◌≡◌, ℕ, ◌∷◌, ◌++◌, length, take,
 use Rattle.std.specs.List.{flat_map}
 use Rattle.std.specs.Int.{w32, to_be_bytes}
 use Rattle.std.proofs.lemmas.List.{take_at, length-append}
-use Rattle.opcode_codec.specs.ControlText.{acked, sid_bytes, id_bytes, control_text, control_of, sent_remote, sent_id, sent_payload, sent_form, with_front}
+use Rattle.vpn_base.specs.Acks.{acked}
+use Rattle.opcode_codec.specs.ControlText.{sid_bytes, id_bytes, control_text, control_of, sent_remote, sent_id, sent_payload, sent_form, with_front}
 use Rattle.opcode_codec.proofs.ControlLaws.{sent_text, sent_again, length-flat_map}
 use Rattle.opcode_codec.proofs.control.write_control.Goals as goal
 

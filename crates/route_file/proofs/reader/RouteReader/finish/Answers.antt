@@ -4,7 +4,7 @@ use Rattle.std.proofs.lemmas.Bool.Decides.{nat_tests}
 use Rattle.std.proofs.lemmas.List.{nil_from_length}
 use Rattle.std.specs.String.{string_bytes}
 use Rattle.schedule_text.specs.declared.kind.TextKind.{TextKind}
-use Rattle.route_file.specs.Lines.{Line}
+use Rattle.vpn_base.specs.Lines.{Line}
 use Rattle.route_file.specs.Progress.{outcome_of, outcome_with, Ends}
 use Rattle.route_file.specs.State.{progress_of}
 use Rattle.route_file.proofs.Readings.{on_ok, if_refused, finished, last_ok, no_line_left}

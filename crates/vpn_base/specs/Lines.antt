@@ -1,5 +1,5 @@
 -- The lines of a text.
-use Rattle.std.specs.Prelude.{ℕ, ◌+◌, ◌==◌, Bool, true, false, List, [], ◌∷◌, length, if◌then◌else◌}
+use Rattle.std.specs.Prelude.{◌≡◌, ℕ, ◌+◌, ◌==◌, Bool, true, false, List, [], ◌∷◌, length, if◌then◌else◌}
 use Rattle.std.specs.List.{slice_split}
 use Rattle.std.specs.Str.Lines.{strip_carriage_return}
 
@@ -24,3 +24,10 @@ content line = if line.ended then strip_carriage_return line.body else line.body
 -- how many bytes of the file a line takes, its line feed included
 abbrev pub size : Line → ℕ
 size line = length line.body + (if line.ended then 1 else 0)
+
+-- the text begins with a line of this content, and the rest stands behind its end
+pub record BeginsWith (text line rest : List ℕ) : Type 0 where
+  pub first : Line
+  pub begins : lines_of text ≡ first ∷ lines_of rest
+  pub shows : content first ≡ line
+  pub takes : size first + length rest ≡ length text
