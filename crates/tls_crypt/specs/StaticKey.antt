@@ -1,8 +1,8 @@
 -- The text of a static key (OpenVPN 2.6, src/openvpn/crypto.c, write_key_file and read_key_file).
-use Rattle.std.specs.Prelude.{ℕ, zero, suc, ◌+◌, List, [], ◌∷◌, ◌++◌, codes, Option, Some, None, Result, Ok, Err, if◌then◌else◌}
+use Rattle.std.specs.Prelude.{ℕ, zero, suc, ◌+◌, List, [], ◌∷◌, ◌++◌, map, codes, Option, Some, None, Result, Ok, Err, if◌then◌else◌}
 use Rattle.std.specs.Str.{bytes_eq}
-use Rattle.std.specs.Str.Lines.{lines}
 use Rattle.std.specs.Result.{result_ok}
+use Rattle.vpn_base.specs.Lines.{lines_of, content}
 use Rattle.hex.specs.Hex.{decode_sized}
 use Rattle.tls_crypt.specs.declared.static_key.KeyFault.{KeyFault}
 use Rattle.tls_crypt.specs.declared.static_key.KeyKind.TheVariants.{NoBegin, Digits, NoEnd}
@@ -16,8 +16,8 @@ unfoldable pub end_line : List ℕ
 end_line = codes "-----END OpenVPN Static key V1-----"
 
 -- the lines of a text, without their ends: a line feed, or a carriage return and a line feed
-unfoldable pub lines_of : List ℕ → List (List ℕ)
-lines_of text = lines text
+unfoldable pub key_lines : List ℕ → List (List ℕ)
+key_lines text = map content (lines_of text)
 
 -- the 16 bytes that a line of 32 hexadecimal digits spells
 unfoldable pub digits_of : List ℕ → Option (List ℕ)
@@ -50,4 +50,4 @@ from_begin before (line ∷ rest) =
 
 -- the 256 bytes of the key that a text holds, or its first fault; lines are counted from 1
 unfoldable pub static_key : List ℕ → Result (List ℕ) KeyFault
-static_key text = from_begin 0 (lines_of text)
+static_key text = from_begin 0 (key_lines text)

@@ -2,12 +2,14 @@
 #![tactic(auto)]
 
 mod bytes;
+mod datagram;
 mod half;
 mod header;
 mod static_key;
 mod wrapper;
 mod wrapping;
 
+pub use datagram::Datagram;
 pub use header::Header;
 pub use static_key::{KeyFault, KeyKind, StaticKey, read_static_key};
 pub use wrapper::Wrapper;

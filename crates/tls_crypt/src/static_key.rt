@@ -1,11 +1,10 @@
 //! The static key that both ends share, and the text that it is kept in.
 
 ghost use Rattle.std.specs.Prelude.{◌≡◌, ℕ, suc, ◌+◌, ◌≤◌, ◌<◌, ◌==◌, [], ◌∷◌, Ok, Err, length, IfSome, IfNone, IfOk, IfErr, if◌then◌else◌};
-ghost use Rattle.std.specs.List.{position};
-ghost use Rattle.std.specs.Str.Lines.{strip_carriage_return};
-ghost use Rattle.tls_crypt.specs.StaticKey.{behind, body, digits_of, lines_of, static_key};
+ghost use Rattle.tls_crypt.specs.StaticKey.{behind, body, digits_of, key_lines, static_key};
 
 use crate::bytes::put;
+use vpn_base::next_line;
 
 // The line in front of the digits, and the line behind them.
 const BEGIN: &[u8] = b"-----BEGIN OpenVPN Static key V1-----";
@@ -41,44 +40,10 @@ pub struct KeyFault {
 #[derive(Clone, Copy)]
 pub struct StaticKey(pub [u8; 256]);
 
-// The place of the first line feed, if there is one.
-fn line_feed(text: &[u8]) -> Option<usize>
-    ensures { result ≡ position (λ byte. byte == 10) text.now }
-{
-    text.iter().position(|byte| *byte == b'\n')
-}
-
-// The line without a carriage return at its end.
-fn without_return(line: &[u8]) -> &[u8]
-    ensures { result.now ≡ strip_carriage_return line.now }
-{
-    let len = line.len();
-    if len > 0 && line[len - 1] == b'\r' {
-        &line[..len - 1]
-    } else {
-        line
-    }
-}
-
-// The first line, without its end, and what follows it. None exactly for no text.
-fn next_line(text: &[u8]) -> Option<(&[u8], &[u8])>
-    ensures none { IfNone result (lines_of text.now ≡ []) }
-    ensures line { IfSome result (λ r. lines_of text.now ≡ r.0.now ∷ lines_of r.1.now) }
-    ensures shorter { IfSome result (λ r. length r.1.now < length text.now) }
-{
-    if text.is_empty() {
-        return None;
-    }
-    match line_feed(text) {
-        Some(end) => Some((without_return(&text[..end]), &text[end + 1..])),
-        None => Some((text, &[])),
-    }
-}
-
 // What follows the begin line, and the number of that line.
 fn behind_begin(text: &[u8]) -> Result<(&[u8], u32), KeyFault>
     requires { length text.now ≤ 65536 }
-    ensures found { IfOk result (λ r. static_key text.now ≡ body 16 r.1 (lines_of r.0.now)) }
+    ensures found { IfOk result (λ r. static_key text.now ≡ body 16 r.1 (key_lines r.0.now)) }
     ensures fits { IfOk result (λ r. r.1 ≤ 65536) }
     ensures fault { IfErr result (λ fault. static_key text.now ≡ Err fault) }
 {
@@ -111,9 +76,9 @@ fn bytes_of(line: &[u8]) -> Option<[u8; LINE_BYTES]>
 // The bytes of the first line, which is one of digits, and what follows it.
 fn digit_line(text: &[u8]) -> Option<([u8; LINE_BYTES], &[u8])>
     ensures digits { IfSome result (λ r. (count before : ℕ)
-        → body (suc count) before (lines_of text.now) ≡ behind r.0 (body count (before + 1) (lines_of r.1.now))) }
+        → body (suc count) before (key_lines text.now) ≡ behind r.0 (body count (before + 1) (key_lines r.1.now))) }
     ensures others { IfNone result ((count before : ℕ)
-        → body (suc count) before (lines_of text.now) ≡ Err (record { line = before + 1; kind = KeyKind.Digits })) }
+        → body (suc count) before (key_lines text.now) ≡ Err (record { line = before + 1; kind = KeyKind.Digits })) }
 {
     match next_line(text) {
         Some((line, rest)) => match bytes_of(line) {
@@ -126,7 +91,7 @@ fn digit_line(text: &[u8]) -> Option<([u8; LINE_BYTES], &[u8])>
 
 // Whether the first line is the end line.
 fn ends(text: &[u8]) -> bool
-    ensures { (before : ℕ) → body 0 before (lines_of text.now)
+    ensures { (before : ℕ) → body 0 before (key_lines text.now)
         ≡ (if result then Ok [] else Err (record { line = before + 1; kind = KeyKind.NoEnd })) }
 {
     match next_line(text) {
@@ -138,8 +103,8 @@ fn ends(text: &[u8]) -> bool
 // The key whose digits stand at the front, behind a begin line of this number.
 fn key_behind(text: &[u8], begin: u32) -> Result<StaticKey, KeyFault>
     requires { begin ≤ 65536 }
-    ensures key { IfOk result (λ key. body 16 begin (lines_of text.now) ≡ Ok key.0) }
-    ensures fault { IfErr result (λ fault. body 16 begin (lines_of text.now) ≡ Err fault) }
+    ensures key { IfOk result (λ key. body 16 begin (key_lines text.now) ≡ Ok key.0) }
+    ensures fault { IfErr result (λ fault. body 16 begin (key_lines text.now) ≡ Err fault) }
 {
     let mut key = [0; 256];
     let mut rest = text;

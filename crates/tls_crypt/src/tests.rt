@@ -1,6 +1,8 @@
 //! Values from outside: datagrams and their SHA-256 digests by Python (hmac, hashlib, and AES-CTR of
 //! OpenSSL), and key texts written by hand.
 
+ghost use Rattle.std.specs.Prelude.{◌≡◌, OnSome};
+
 use super::*;
 use sha2::{Digest, Sha256};
 use std::process::Abort;
@@ -48,9 +50,12 @@ fn counting_key() -> StaticKey {
     StaticKey(key)
 }
 
-// Why an end does not unwrap a datagram.
-fn refusal<W: Wrap>(end: &W, datagram: &mut [u8]) -> Option<Unwrap> {
-    match end.unwrap(datagram) {
+// Why an end does not unwrap a datagram, whose bytes are then the old ones.
+fn refusal<W: Wrap>(end: &W, bytes: &mut [u8]) -> Option<Unwrap>
+    ensures unchanged { OnSome result (bytes.new ≡ bytes.old) }
+{
+    let mut datagram = Datagram { bytes };
+    match datagram.unwrap(end) {
         Ok(_) => None,
         Err(fault) => Some(fault),
     }
@@ -291,6 +296,20 @@ fn a_reset_and_what_is_changed_in_it(rt: HostRuntime) {
     };
     assert_eq!(rt; server.unwrap_in_place(&mut datagram), Ok(header));
     assert!(rt; &datagram[49..] == [0u8; 5].as_slice());
+    let mut received = RESET;
+    let mut whole = Datagram {
+        bytes: &mut received,
+    };
+    match whole.unwrap(&server) {
+        Ok(opened) => {
+            assert_eq!(rt; opened.first, 0x38);
+            assert_eq!(rt; opened.sid, SID);
+            assert_eq!(rt; opened.id, 1);
+            assert_eq!(rt; opened.time, 0x6500_0000);
+            assert!(rt; opened.plain == [0u8; 5].as_slice());
+        }
+        Err(_) => assert!(rt; false, "not unwrapped"),
+    }
 }
 
 // Reads the text that the pieces make, with CR LF in place of LF if that is wanted.

@@ -1,7 +1,7 @@
 use Rattle.std.proofs.Common.{rules, ◌≡◌, ℕ, suc, ◌+◌, ◌-◌, ◌*◌, Bool, cond, List, [], ◌++◌, length, take, take_all, Ok, Err, ap, sym, ◌∙◌, arith}
 use Rattle.std.proofs.lemmas.List.{append-nil}
 use Rattle.tls_crypt.specs.declared.static_key.KeyKind.TheVariants.{NoEnd}
-use Rattle.tls_crypt.specs.StaticKey.{behind, body, lines_of}
+use Rattle.tls_crypt.specs.StaticKey.{behind, body, key_lines}
 use Rattle.tls_crypt.proofs.KeyLines.{behind-behind}
 use Rattle.tls_crypt.proofs.static_key.key_behind.Goals as goal
 
@@ -12,7 +12,7 @@ returns-in-None-clause-fault c =
     let front = take (16 * k) c.lines.key in
     let left : 16 - k ≡ suc (15 - k) = omega arith in
     c.lines.invariant.0
-    ∙ ap (λ (n : ℕ). behind front (body n (begin + k) (lines_of c.lines.rest.now))) left
+    ∙ ap (λ (n : ℕ). behind front (body n (begin + k) (key_lines c.lines.rest.now))) left
     ∙ ap (behind front) (c.in-None.ensures.others (15 - k) (begin + k))
 
 pub lines-preserved : goal.lines-preserved
@@ -21,7 +21,7 @@ lines-preserved c =
     let begin = c.args.begin in
     let front = take (16 * k) c.lines.key in
     let bytes = c.in-Some.found.0 in
-    let rest = lines_of c.in-Some.found.1.now in
+    let rest = key_lines c.in-Some.found.1.now in
     let size : length bytes ≡ 16 = search rules in
     let left : 16 - k ≡ suc (15 - k) = omega arith in
     let next : 16 * k + 16 ≡ 16 * (k + 1) = omega arith in
@@ -31,7 +31,7 @@ lines-preserved c =
     let later : begin + k + 1 ≡ begin + (k + 1) = omega arith in
     let kept : length c.put.new.out ≡ 256 = search rules in (
       c.lines.invariant.0
-          ∙ ap (λ (n : ℕ). behind front (body n (begin + k) (lines_of c.lines.rest.now))) left
+          ∙ ap (λ (n : ℕ). behind front (body n (begin + k) (key_lines c.lines.rest.now))) left
           ∙ ap (behind front) (c.in-Some.ensures.digits (15 - k) (begin + k))
           ∙ behind-behind front bytes (body (15 - k) (begin + k + 1) rest)
           ∙ ap (λ (l : List ℕ). behind l (body (15 - k) (begin + k + 1) rest)) written
@@ -44,7 +44,7 @@ pub returns-then-ends-clause-key : goal.returns-then-ends-clause-key
 returns-then-ends-clause-key c =
     let begin = c.args.begin in
     let key = c.lines.key in
-    let rest = lines_of c.lines.rest.now in
+    let rest = key_lines c.lines.rest.now in
     let all : c.lines.k ≡ 16 = omega arith in
     let size : length key ≡ 256 = c.lines.invariant.1 in
     c.lines.invariant.0

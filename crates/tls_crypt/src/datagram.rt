@@ -1,0 +1,68 @@
+//! Datagrams that are unwrapped where they lie.
+
+ghost use Rattle.std.specs.Prelude.{◌≡◌, ◌≤◌, length, drop};
+
+use crate::half::OVERHEAD;
+use crate::header::Header;
+use crate::wrapping::{Opened, Unwrap, Wrap};
+
+/// A received datagram, which is unwrapped in place.
+#[derive(Drop)]
+pub struct Datagram<'a> {
+    /// Its bytes.
+    pub bytes: &'a mut [u8],
+}
+
+impl Datagram<'_> {
+    ghost use Rattle.std.specs.Prelude.{◌≡◌, ◌≤◌, ◌<◌, ◌↔◌, length, IfOk, IsErrOf};
+    ghost use Rattle.std.specs.Borrow.{sem};
+    ghost use Rattle.tls_crypt.specs.Lending.{IsKeptIfRefused};
+    ghost use Rattle.tls_crypt.specs.Packets.{IsWrappedByNone};
+
+    /// Unwraps the datagram, and answers the packet, whose plain text stays in the datagram.
+    ///
+    /// `Short` comes exactly below 49 bytes, and `NotWrapped` exactly where no packet wraps to the
+    /// datagram at the other end. The datagram is unchanged then.
+    pub fn unwrap<W: Wrap>(&mut self, wrap: &W) -> Result<Opened<'_>, Unwrap>
+        ensures* unchanged { sem 𝓛 (IsKeptIfRefused self.entry result) }
+        ensures opened { IfOk result (λ o.
+            self.old.bytes.now ≡ W.unwrapped wrap.now o.first o.sid.0 o.id o.time o.plain.now) }
+        ensures refused { IsErrOf result Unwrap.NotWrapped → IsWrappedByNone (W.unwrapped wrap.now) self.old.bytes.now }
+        ensures short { IsErrOf result Unwrap.Short ↔ (length self.old.bytes.now < 49) }
+    {
+        match wrap.unwrap_in_place(self.bytes) {
+            Ok(header) => Ok(self.opened(header)),
+            Err(fault) => Err(fault),
+        }
+    }
+
+    // The packet with this header, whose plain text stands in the datagram.
+    fn opened(&self, header: Header) -> Opened<'_>
+        requires { 49 ≤ length self.now.bytes.now }
+        ensures header { (result.first ≡ header.first) × (result.sid ≡ header.sid) × (result.id ≡ header.id) × (result.time ≡ header.time) }
+        ensures plain { result.plain.now ≡ drop 49 self.now.bytes.now }
+    {
+        view(header, self.bytes)
+    }
+}
+
+// The packet with this header, whose plain text stands in an unwrapped datagram.
+pub(crate) fn view<'d>(header: Header, datagram: &'d [u8]) -> Opened<'d>
+    requires { 49 ≤ length datagram.now }
+    ensures header { (result.first ≡ header.first) × (result.sid ≡ header.sid) × (result.id ≡ header.id) × (result.time ≡ header.time) }
+    ensures plain { result.plain.now ≡ drop 49 datagram.now }
+{
+    let Header {
+        first,
+        sid,
+        id,
+        time,
+    } = header;
+    Opened {
+        first,
+        sid,
+        id,
+        time,
+        plain: &datagram[OVERHEAD..],
+    }
+}
