@@ -1,0 +1,24 @@
+//! Configuration files: the directives of a server or a client, read into settings and printed
+//! again.
+#![tactic(auto)]
+
+mod arguments;
+mod item;
+mod judging;
+mod keyword;
+mod laws;
+mod lines;
+mod names;
+mod reading;
+mod settings;
+mod spelling;
+mod values;
+mod writing;
+
+pub use laws::{reads_config_again, settings_are_bounded};
+pub use reading::read_config;
+pub use settings::{KeyPlace, Settings};
+pub use writing::write_config;
+
+#[cfg(test)]
+mod tests;
