@@ -1,0 +1,4 @@
+pub mod LeastFree
+pub mod Counts
+pub mod Holds
+pub mod Arrivals
