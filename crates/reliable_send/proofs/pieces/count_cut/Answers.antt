@@ -1,0 +1,6 @@
+use Rattle.std.proofs.Common.{◌∙◌}
+use Rattle.reliable_send.proofs.Cutting.{length-cut}
+use Rattle.reliable_send.proofs.pieces.count_cut.Goals as goal
+
+pub returns : goal.returns
+returns c = c.div_ceil.ensures ∙ length-cut c.args.bytes.now

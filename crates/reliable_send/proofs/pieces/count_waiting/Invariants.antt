@@ -1,0 +1,6 @@
+use Rattle.std.proofs.Common.{◌≡◌, ◌+◌, drop}
+use Rattle.reliable_send.specs.Sides.{waiting}
+use Rattle.reliable_send.proofs.pieces.count_waiting.Given as goal
+
+abbrev pub invariant-loop-piece : goal.invariant-loop-piece
+invariant-loop-piece l = l.count + waiting (drop l.piece-index l.pieces) ≡ waiting l.pieces
