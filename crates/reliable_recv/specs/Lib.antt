@@ -1,0 +1,4 @@
+pub mod Receiving
+pub mod Sides
+pub mod Prefix
+pub mod Runs
