@@ -1,0 +1,61 @@
+//! How an outbox keeps effects.
+
+use crate::notes::Note;
+use vpn_base::{Addr, Cid, Conn, Ip4, Role, RouteList, TextList};
+
+// Where bytes lie in the store of an outbox.
+#[derive(Clone, Copy, Debug)]
+pub(crate) struct Span {
+    pub(crate) start: usize,
+    pub(crate) len: usize,
+}
+
+// An effect, with the place of its bytes.
+#[derive(Debug, Drop)]
+pub(crate) enum Kept {
+    Wire {
+        to: Addr,
+        span: Span,
+    },
+    EngineOpen {
+        conn: Conn,
+        role: Role,
+    },
+    EnginePut {
+        conn: Conn,
+        span: Span,
+    },
+    EngineWrite {
+        conn: Conn,
+        span: Span,
+    },
+    EngineClose {
+        conn: Conn,
+    },
+    Device {
+        span: Span,
+    },
+    Configure {
+        address: Ip4,
+        len: u8,
+        gateway: Option<Ip4>,
+        routes: RouteList,
+        rest: TextList,
+    },
+    Ask {
+        cid: Cid,
+        span: Span,
+    },
+    Say {
+        span: Span,
+    },
+    Report(Note),
+    Stop,
+}
+
+// A control datagram, with the place of its bytes.
+#[derive(Clone, Copy, Debug)]
+pub(crate) struct Staged {
+    pub(crate) to: Addr,
+    pub(crate) span: Span,
+}
