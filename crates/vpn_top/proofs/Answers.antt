@@ -11,9 +11,9 @@ use Rattle.vpn_top.specs.declared.refusal.Refusal.{Refusal}
 use Rattle.vpn_top.specs.declared.refusal.Refusal.TheVariants as refusals
 use Rattle.vpn_top.specs.Messages.{refusal_line}
 use Rattle.vpn_top.specs.Partly.{AppendedPart}
-use Rattle.vpn_top.specs.Written.{Printed, PrintedPart}
+use Rattle.vpn_top.specs.Written.{Printed, PrintedPart, Run}
 use Rattle.vpn_top.specs.Ends.{Ended, Counts}
-use Rattle.vpn_top.specs.Answer.{Run, RanRoute, Told}
+use Rattle.vpn_top.specs.Answer.{RanRoute, Told}
 use Rattle.vpn_top.proofs.Runs.{file_of}
 
 -- all of a text is a front of it
@@ -25,6 +25,8 @@ pub told_line : (name : List ℕ) (r : Refusal) (before after : Option (List ℕ
     Told name (Some r) before after
 told_line name refusals.Usage before after line wrote is = wrote ∙ ap (appended before) is
 told_line name (refusals.Line fault) before after line wrote is = wrote ∙ ap (appended before) is
+told_line name (refusals.Config number kind) before after line wrote is = wrote ∙ ap (appended before) is
+told_line name (refusals.Key fault) before after line wrote is = wrote ∙ ap (appended before) is
 told_line name refusals.Missing before after line wrote is = wrote ∙ ap (appended before) is
 told_line name refusals.Unreadable before after line wrote is = wrote ∙ ap (appended before) is
 told_line name refusals.Output before after line wrote is = (refusals.Output, whole_part before after (refusal_line name refusals.Output) (wrote ∙ ap (appended before) is))
@@ -42,6 +44,8 @@ printed_part h before after fault p = record {
 part_of_end : (r : Refusal) (h : Holding) (before after : Option (List ℕ)) (counts : Counts) → Ended (Some r) h before after counts → PrintedPart h before after
 part_of_end refusals.Usage h before after counts end = absurd end
 part_of_end (refusals.Line fault) h before after counts end = printed_part h before after (Some (fault.line, fault.kind)) end
+part_of_end (refusals.Config number kind) h before after counts end = absurd end
+part_of_end (refusals.Key fault) h before after counts end = absurd end
 part_of_end refusals.Missing h before after counts end = end.1
 part_of_end refusals.Unreadable h before after counts end = end.2
 part_of_end refusals.Output h before after counts end = end.1
@@ -53,6 +57,8 @@ counts_of run = record { files_before = run.files.0; files_after = run.files.1; 
 ran_route : (r : Refusal) (h : Holding) (run : Run) → Ended (Some r) h run.before run.after (counts_of run) → RanRoute (Some r) h run
 ran_route refusals.Usage h run end = end
 ran_route (refusals.Line fault) h run end = end
+ran_route (refusals.Config number kind) h run end = end
+ran_route (refusals.Key fault) h run end = end
 ran_route refusals.Missing h run end = end
 ran_route refusals.Unreadable h run end = end
 ran_route refusals.Output h run end = (inl end.0, end.1)

@@ -7,7 +7,7 @@ use Rattle.vpn_top.specs.declared.refusal.Refusal.{Refusal}
 use Rattle.vpn_top.specs.declared.refusal.Refusal.TheVariants as refusals
 use Rattle.vpn_top.specs.Ends.{Ended}
 
-rose_since : (earlier before after : ℕ) → earlier ≤ before → Rose before after → Rose earlier after
+pub rose_since : (earlier before after : ℕ) → earlier ≤ before → Rose before after → Rose earlier after
 rose_since earlier before after falls rose = omega arith
 
 -- an end says the same of counts from an earlier moment on
@@ -18,6 +18,8 @@ pub ended_since : (r : Option Refusal) (h : Holding) (before after : Option (Lis
 ended_since None h before after fe fb fa oe ob oa files out end = end
 ended_since (Some refusals.Usage) h before after fe fb fa oe ob oa files out end = end
 ended_since (Some (refusals.Line fault)) h before after fe fb fa oe ob oa files out end = end
+ended_since (Some (refusals.Config number kind)) h before after fe fb fa oe ob oa files out end = end
+ended_since (Some (refusals.Key fault)) h before after fe fb fa oe ob oa files out end = end
 ended_since (Some refusals.Missing) h before after fe fb fa oe ob oa files out end = end
 ended_since (Some refusals.Unreadable) h before after fe fb fa oe ob oa files out end = (rose_since fe fb fa files end.0, end.1, end.2)
 ended_since (Some refusals.Output) h before after fe fb fa oe ob oa files out end = (rose_since oe ob oa out end.0, end.1)

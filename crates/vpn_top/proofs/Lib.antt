@@ -2,3 +2,6 @@ pub mod Appending
 pub mod Runs
 pub mod Counting
 pub mod Answers
+mod Fronts
+mod Checks
+mod CheckEnds

@@ -24,6 +24,8 @@ abbrev pub Ended : Option Refusal → Holding → Option (List ℕ) → Option (
 Ended None holding before after counts = Printed holding before after None
 Ended (Some refusals.Usage) holding before after counts = ⊥
 Ended (Some (refusals.Line fault)) holding before after counts = Printed holding before after (Some (fault.line, fault.kind))
+Ended (Some (refusals.Config line kind)) holding before after counts = ⊥
+Ended (Some (refusals.Key fault)) holding before after counts = ⊥
 Ended (Some refusals.Missing) holding before after counts = IsMissing holding × PrintedPart holding before after
 Ended (Some refusals.Unreadable) holding before after counts =
     Rose counts.files_before counts.files_after × (¬ (holding ≡ Absent)) × PrintedPart holding before after

@@ -4,5 +4,8 @@ pub mod Partly
 pub mod Written
 pub mod Going
 pub mod Ends
+pub mod Configuration
+pub mod Check
+pub mod Refused
 pub mod Answer
 pub mod Told

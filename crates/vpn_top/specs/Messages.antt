@@ -3,6 +3,10 @@ use Rattle.std.specs.Prelude.{ℕ, List, [], ◌∷◌, ◌++◌, codes}
 use Rattle.std.specs.Fmt.{decimal}
 use Rattle.schedule_text.specs.declared.kind.TextKind.{TextKind}
 use Rattle.schedule_text.specs.declared.kind.TextKind.TheVariants as kinds
+use Rattle.vpn_text.specs.declared.config.ConfigKind.{ConfigKind}
+use Rattle.vpn_text.specs.declared.config.ConfigKind.TheVariants as config_kinds
+use Rattle.tls_crypt.specs.declared.static_key.KeyKind.{KeyKind}
+use Rattle.tls_crypt.specs.declared.static_key.KeyKind.TheVariants as key_kinds
 use Rattle.vpn_top.specs.declared.refusal.Refusal.{Refusal}
 use Rattle.vpn_top.specs.declared.refusal.Refusal.TheVariants as refusals
 
@@ -15,22 +19,51 @@ kind_text kinds.Digits = codes "digits"
 kind_text kinds.Long = codes "long"
 kind_text kinds.NoEnd = codes "no-end"
 
--- without its line feed, for a file of this name
+-- the kind of a faulty line of a configuration
+abbrev pub config_kind_text : ConfigKind → List ℕ
+config_kind_text config_kinds.Quote = codes "quote"
+config_kind_text config_kinds.Escape = codes "escape"
+config_kind_text config_kinds.Control = codes "control"
+config_kind_text config_kinds.Long = codes "long"
+config_kind_text config_kinds.Unknown = codes "unknown"
+config_kind_text config_kinds.Refused = codes "refused"
+config_kind_text config_kinds.Arguments = codes "arguments"
+config_kind_text config_kinds.Repeated = codes "repeated"
+config_kind_text config_kinds.Block = codes "block"
+config_kind_text config_kinds.Side = codes "side"
+config_kind_text config_kinds.Missing = codes "missing"
+
+-- the kind of a fault in the text of a static key
+abbrev pub key_kind_text : KeyKind → List ℕ
+key_kind_text key_kinds.NoBegin = codes "no-begin"
+key_kind_text key_kinds.Digits = codes "digits"
+key_kind_text key_kinds.NoEnd = codes "no-end"
+
+-- a space and the word of a faulty line, if it has one
+abbrev pub word_text : List ℕ → List ℕ
+word_text [] = []
+word_text (c ∷ cs) = 32 ∷ c ∷ cs
+
+-- without its line feed; the subject is the name of the file, or the word of the faulty line
 abbrev pub refusal_text : List ℕ → Refusal → List ℕ
-refusal_text name refusals.Usage = codes "usage: vpn route|check|replay|server|client|lab"
-refusal_text name (refusals.Line fault) = codes "line " ++ decimal fault.line ++ codes ": " ++ kind_text fault.kind
-refusal_text name refusals.Missing = codes "missing " ++ name
-refusal_text name refusals.Unreadable = codes "unreadable " ++ name
-refusal_text name refusals.Output = codes "output"
-refusal_text name refusals.NoMemory = codes "no memory"
+refusal_text subject refusals.Usage = codes "usage: vpn route|check|replay|server|client|lab"
+refusal_text subject (refusals.Line fault) = codes "line " ++ decimal fault.line ++ codes ": " ++ kind_text fault.kind
+refusal_text subject (refusals.Config line kind) = codes "line " ++ decimal line ++ codes ": " ++ config_kind_text kind ++ word_text subject
+refusal_text subject (refusals.Key fault) = codes "key line " ++ decimal fault.line ++ codes ": " ++ key_kind_text fault.kind
+refusal_text subject refusals.Missing = codes "missing " ++ subject
+refusal_text subject refusals.Unreadable = codes "unreadable " ++ subject
+refusal_text subject refusals.Output = codes "output"
+refusal_text subject refusals.NoMemory = codes "no memory"
 
 abbrev pub refusal_line : List ℕ → Refusal → List ℕ
-refusal_line name refusal = refusal_text name refusal ++ 10 ∷ []
+refusal_line subject refusal = refusal_text subject refusal ++ 10 ∷ []
 
 -- the exit status of each refusal
 abbrev pub status_of : Refusal → ℕ
 status_of refusals.Usage = 1
 status_of (refusals.Line fault) = 2
+status_of (refusals.Config line kind) = 2
+status_of (refusals.Key fault) = 2
 status_of refusals.Missing = 3
 status_of refusals.Unreadable = 3
 status_of refusals.Output = 6

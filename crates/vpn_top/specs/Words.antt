@@ -1,8 +1,23 @@
 -- The words of a command line, after the program's name.
 use Rattle.std.specs.Prelude.{ℕ, List, [], ◌∷◌, codes, Option, Some, None, if◌then◌else◌}
 use Rattle.std.specs.Str.{bytes_eq}
+use Rattle.vpn_top.specs.declared.top.Request.{Request}
+use Rattle.vpn_top.specs.declared.top.Request.TheVariants as requests
 
--- `route FILE`: the name of the file
-abbrev pub route_name : List (List ℕ) → Option (List ℕ)
-route_name (command ∷ name ∷ []) = if bytes_eq command (codes "route") then Some name else None
-route_name _ = None
+-- a command, with the name of its file
+pub data Command : Type 0 where
+  Route : List ℕ → Command
+  Check : List ℕ → Command
+
+-- `route FILE` and `check FILE`
+abbrev pub command_of : List (List ℕ) → Option Command
+command_of (command ∷ name ∷ []) =
+    if bytes_eq command (codes "route") then Some (Route name)
+    else if bytes_eq command (codes "check") then Some (Check name)
+    else None
+command_of _ = None
+
+-- what a request asks for
+abbrev pub asked : Request → Command
+asked (requests.Route name) = Route name.now
+asked (requests.Check name) = Check name.now

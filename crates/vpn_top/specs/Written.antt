@@ -30,3 +30,11 @@ pub record PrintedPart (holding : Holding) (before after : Option (List ℕ)) : 
   pub length : ℕ
   pub file : IsFile holding bytes
   pub written : after ≡ appended before (take length (routes bytes).printed)
+
+-- what a call did to the output, before and after, and the counts of faults of files, output and error output before and after it
+pub record Run : Type 0 where
+  pub before : Option (List ℕ)
+  pub after : Option (List ℕ)
+  pub files : ℕ × ℕ
+  pub out : ℕ × ℕ
+  pub err : ℕ × ℕ

@@ -1,6 +1,8 @@
 //! The commands of the program, over any files and sinks.
 #![tactic(auto)]
 
+mod check;
+mod front;
 mod refusal;
 mod route;
 mod top;

@@ -3,6 +3,7 @@ use std::alloc::Global;
 use std::test::Fail;
 use vpn_base::{Bytes, MemFiles, MemSink, Text};
 
+mod checking;
 mod sealing;
 
 #[derive(Clone, Copy)]
@@ -223,7 +224,7 @@ fn refusals(rt: HostRuntime) -> Result<(), Fail> {
         ),
         (
             Case {
-                words: &["check", "f"],
+                words: &["Check", "f"],
                 ..of_file(b"")
             },
             1,

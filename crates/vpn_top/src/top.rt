@@ -5,10 +5,15 @@ ghost use Rattle.std.specs.String.{string_bytes};
 ghost use Rattle.vpn_base.specs.Answers.{Rose};
 ghost use Rattle.vpn_base.specs.Files.{Holding, Absent, Held};
 ghost use Rattle.route_file.specs.Output.{routes};
-ghost use Rattle.vpn_top.specs.Words.{route_name};
-ghost use Rattle.vpn_top.specs.Answer.{Answered, IsCutOff, Ran, Told, exit_status as status_for, name_in};
+ghost use Rattle.vpn_text.specs.declared.config.ConfigFault.{ConfigFault};
+ghost use Rattle.tls_crypt.specs.declared.static_key.KeyFault.{KeyFault};
+ghost use Rattle.ovpn_config.specs.declared.settings.Settings.{Settings};
+ghost use Rattle.vpn_top.specs.Words.{Check, Route, asked, command_of};
+ghost use Rattle.vpn_top.specs.Configuration.{IsConfigured, IsKeyed, IsMisconfigured, IsMiskeyed};
+ghost use Rattle.vpn_top.specs.Answer.{Answered, Finished, IsCutOff, exit_status as status_for};
 ghost use Rattle.vpn_top.specs.Told.{Tells};
 
+use crate::check::check;
 use crate::refusal::Refusal;
 use crate::route::route;
 use crate::writing::write_all;
@@ -26,14 +31,23 @@ pub struct Outside<F, S, E> {
     pub err: E,
 }
 
-// The name of the file in the words `route FILE`.
-fn route_file_name(words: &[String]) -> Option<&str>
-    ensures { option_map (λ name. name.now) result ≡ route_name (map string_bytes words.now) }
+// What the words ask for, with the name of its file.
+#[derive(Clone, Copy)]
+pub(crate) enum Request<'a> {
+    Route(&'a str),
+    Check(&'a str),
+}
+
+// The command that the words give.
+fn command_in(words: &[String]) -> Option<Request<'_>>
+    ensures { option_map asked result ≡ command_of (map string_bytes words.now) }
 {
     match words {
         [command, name] => {
             if command.as_str() == "route" {
-                Some(name.as_str())
+                Some(Request::Route(name.as_str()))
+            } else if command.as_str() == "check" {
+                Some(Request::Check(name.as_str()))
             } else {
                 None
             }
@@ -44,12 +58,12 @@ fn route_file_name(words: &[String]) -> Option<&str>
 
 // Writes the refusal's line, and answers which refusal that is: want of memory where there was not
 // enough to make the line, and the output where the line could not be written.
-fn tell<E: Sink>(alloc: Global, refusal: Refusal, name: &str, err: &mut E) -> Refusal
-    ensures told { Tells name.now refusal result (E.contents err.old) (E.contents err.new) (E.faults err.old) (E.faults err.new) }
+fn tell<E: Sink>(alloc: Global, refusal: Refusal, subject: &[u8], err: &mut E) -> Refusal
+    ensures told { Tells subject.now refusal result (E.contents err.old) (E.contents err.new) (E.faults err.old) (E.faults err.new) }
     ensures never_falls { E.faults err.old ≤ E.faults err.new }
 {
-    match refusal.line(alloc, name) {
-        Ok(line) => match write_all(err, line.as_bytes()) {
+    match refusal.line(alloc, subject) {
+        Ok(line) => match write_all(err, &line) {
             Ok(()) => refusal,
             Err(_) => Refusal::Output,
         },
@@ -70,6 +84,52 @@ fn exit_status(refusal: Option<Refusal>) -> u8
     }
 }
 
+// Carries out `route`, and answers the refusal that was told.
+fn run_route<F: Files, S: Sink, E: Sink>(
+    alloc: Global,
+    name: &str,
+    files: &mut F,
+    out: &mut S,
+    err: &mut E,
+) -> Option<Refusal>
+    ensures finished { Finished (Some (Route name.now)) (F.holds files.old) result (record {
+      before = S.contents out.old;
+      after = S.contents out.new;
+      files = (F.faults files.old, F.faults files.new);
+      out = (S.faults out.old, S.faults out.new);
+      err = (E.faults err.old, E.faults err.new);
+    }) (E.contents err.old) (E.contents err.new) }
+    ensures kept { (name : List ℕ) → F.holds files.new name ≡ F.holds files.old name }
+{
+    match route(alloc, name.as_bytes(), files, out) {
+        None => None,
+        Some(refusal) => Some(tell(alloc, refusal, name.as_bytes(), err)),
+    }
+}
+
+// Carries out `check`, and answers the refusal that was told.
+fn run_check<F: Files, S: Sink, E: Sink>(
+    alloc: Global,
+    name: &str,
+    files: &mut F,
+    out: &mut S,
+    err: &mut E,
+) -> Option<Refusal>
+    ensures finished { Finished (Some (Check name.now)) (F.holds files.old) result (record {
+      before = S.contents out.old;
+      after = S.contents out.new;
+      files = (F.faults files.old, F.faults files.new);
+      out = (S.faults out.old, S.faults out.new);
+      err = (E.faults err.old, E.faults err.new);
+    }) (E.contents err.old) (E.contents err.new) }
+    ensures kept { (name : List ℕ) → F.holds files.new name ≡ F.holds files.old name }
+{
+    match check(alloc, name.as_bytes(), files, out) {
+        None => None,
+        Some(refused) => Some(tell(alloc, refused.refusal, refused.subject.as_slice(), err)),
+    }
+}
+
 // Carries out the command that the words give, and answers the refusal that was told.
 fn run<F: Files, S: Sink, E: Sink>(
     alloc: Global,
@@ -78,40 +138,38 @@ fn run<F: Files, S: Sink, E: Sink>(
     out: &mut S,
     err: &mut E,
 ) -> Option<Refusal>
-    ensures ran { Ran (route_name (map string_bytes words.now)) (F.holds files.old) result (record {
+    ensures finished { Finished (command_of (map string_bytes words.now)) (F.holds files.old) result (record {
       before = S.contents out.old;
       after = S.contents out.new;
       files = (F.faults files.old, F.faults files.new);
       out = (S.faults out.old, S.faults out.new);
       err = (E.faults err.old, E.faults err.new);
-    }) }
-    ensures told { Told (name_in (route_name (map string_bytes words.now))) result (E.contents err.old) (E.contents err.new) }
+    }) (E.contents err.old) (E.contents err.new) }
     ensures kept { (name : List ℕ) → F.holds files.new name ≡ F.holds files.old name }
 {
-    match route_file_name(words) {
-        None => Some(tell(alloc, Refusal::Usage, "", err)),
-        Some(name) => match route(alloc, name.as_bytes(), files, out) {
-            None => None,
-            Some(refusal) => Some(tell(alloc, refusal, name, err)),
-        },
+    match command_in(words) {
+        None => Some(tell(alloc, Refusal::Usage, b"", err)),
+        Some(Request::Route(name)) => run_route(alloc, name, files, out, err),
+        Some(Request::Check(name)) => run_check(alloc, name, files, out, err),
     }
 }
 
 /// Carries out the command that the words after the program's name give, and answers the exit
 /// status with what lies outside, handed back.
 ///
-/// `route FILE` prints where each packet of a route file goes. The status is 0 where everything was
-/// done; 1 where the words are no command; 2 where a line of the file is faulty, with the output of
-/// the lines before it; 3 where there is no such file or it can't be read; 6 where the output or
-/// the error output can't be written; 8 where memory is short. A status other than 0 comes with its
-/// line on the error output.
+/// `route FILE` prints where each packet of a route file goes. `check FILE` prints the configuration of
+/// a server or a client in its canonical text, where it and its static key are accepted. The status is
+/// 0 where everything was done; 1 where the words are no command; 2 where a file is refused, of a route
+/// file with the output of the lines before its faulty one; 3 where there is no such file or it can't be
+/// read; 6 where the output or the error output can't be written; 8 where memory is short. A status
+/// other than 0 comes with its line on the error output.
 pub fn vpn_main<F: Files, S: Sink, E: Sink>(
     alloc: Global,
     words: &[String],
     outside: Outside<F, S, E>,
 ) -> (u8, Outside<F, S, E>)
     // How the call ended, with its status, the output and the error output.
-    ensures answered { Answered (route_name (map string_bytes words.now)) (F.holds outside.files) result.0 (record {
+    ensures answered { Answered (command_of (map string_bytes words.now)) (F.holds outside.files) result.0 (record {
       before = S.contents outside.out;
       after = S.contents result.1.out;
       files = (F.faults outside.files, F.faults result.1.files);
@@ -120,23 +178,44 @@ pub fn vpn_main<F: Files, S: Sink, E: Sink>(
     }) (E.contents outside.err) (E.contents result.1.err) }
 
     // Wrong words are refused as such, and no others.
-    ensures usage { result.0 ≡ 1 → route_name (map string_bytes words.now) ≡ None }
-    ensures not_usage { route_name (map string_bytes words.now) ≡ None →
+    ensures usage { result.0 ≡ 1 → command_of (map string_bytes words.now) ≡ None }
+    ensures not_usage { command_of (map string_bytes words.now) ≡ None →
         (result.0 ≡ 1)
         ⊎ IsCutOff result.0 (S.faults outside.out, S.faults result.1.out) (E.faults outside.err, E.faults result.1.err) }
 
     // A file without a faulty line is printed whole, and one with a faulty line is refused.
-    ensures whole { (name bytes : List ℕ) → route_name (map string_bytes words.now) ≡ Some name →
+    ensures whole { (name bytes : List ℕ) → command_of (map string_bytes words.now) ≡ Some (Route name) →
         F.holds outside.files name ≡ Held bytes → (routes bytes).fault ≡ None →
         (result.0 ≡ 0)
         ⊎ ((result.0 ≡ 3) × Rose (F.faults outside.files) (F.faults result.1.files))
         ⊎ IsCutOff result.0 (S.faults outside.out, S.faults result.1.out) (E.faults outside.err, E.faults result.1.err) }
-    ensures faulty { (name bytes : List ℕ) → route_name (map string_bytes words.now) ≡ Some name →
+    ensures faulty { (name bytes : List ℕ) → command_of (map string_bytes words.now) ≡ Some (Route name) →
         F.holds outside.files name ≡ Held bytes → IsSome (routes bytes).fault →
         (result.0 ≡ 2)
         ⊎ ((result.0 ≡ 3) × Rose (F.faults outside.files) (F.faults result.1.files))
         ⊎ IsCutOff result.0 (S.faults outside.out, S.faults result.1.out) (E.faults outside.err, E.faults result.1.err) }
-    ensures missing { (name : List ℕ) → route_name (map string_bytes words.now) ≡ Some name →
+    ensures missing { (name : List ℕ) → command_of (map string_bytes words.now) ≡ Some (Route name) →
+        F.holds outside.files name ≡ Absent →
+        (result.0 ≡ 3)
+        ⊎ IsCutOff result.0 (S.faults outside.out, S.faults result.1.out) (E.faults outside.err, E.faults result.1.err) }
+
+    // A configuration that is accepted with its static key is printed, and one that is not is refused.
+    ensures checked { (name : List ℕ) (s : Settings) → command_of (map string_bytes words.now) ≡ Some (Check name) →
+        IsConfigured (F.holds outside.files name) s → IsKeyed (F.holds outside.files) s.key →
+        (result.0 ≡ 0)
+        ⊎ ((result.0 ≡ 3) × Rose (F.faults outside.files) (F.faults result.1.files))
+        ⊎ IsCutOff result.0 (S.faults outside.out, S.faults result.1.out) (E.faults outside.err, E.faults result.1.err) }
+    ensures misconfigured { (name : List ℕ) (fault : ConfigFault) → command_of (map string_bytes words.now) ≡ Some (Check name) →
+        IsMisconfigured (F.holds outside.files name) fault →
+        (result.0 ≡ 2)
+        ⊎ ((result.0 ≡ 3) × Rose (F.faults outside.files) (F.faults result.1.files))
+        ⊎ IsCutOff result.0 (S.faults outside.out, S.faults result.1.out) (E.faults outside.err, E.faults result.1.err) }
+    ensures miskeyed { (name : List ℕ) (s : Settings) (fault : KeyFault) → command_of (map string_bytes words.now) ≡ Some (Check name) →
+        IsConfigured (F.holds outside.files name) s → IsMiskeyed (F.holds outside.files) s.key fault →
+        (result.0 ≡ 2)
+        ⊎ ((result.0 ≡ 3) × Rose (F.faults outside.files) (F.faults result.1.files))
+        ⊎ IsCutOff result.0 (S.faults outside.out, S.faults result.1.out) (E.faults outside.err, E.faults result.1.err) }
+    ensures lacking { (name : List ℕ) → command_of (map string_bytes words.now) ≡ Some (Check name) →
         F.holds outside.files name ≡ Absent →
         (result.0 ≡ 3)
         ⊎ IsCutOff result.0 (S.faults outside.out, S.faults result.1.out) (E.faults outside.err, E.faults result.1.err) }

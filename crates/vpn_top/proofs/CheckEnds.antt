@@ -1,0 +1,98 @@
+-- How `check` ends where everything is told.
+use Rattle.std.proofs.Common.{◌≡◌, ℕ, List, Ok, Err, Result, ap, ◌∙◌, sym, subst, inl, inr, refl}
+use Rattle.std.specs.Prelude.{◌⊎◌, Option, Some, None}
+use Rattle.vpn_base.specs.Answers.{Rose}
+use Rattle.vpn_base.specs.Files.{Holding, Untold, Absent, Held, IsMissing}
+use Rattle.vpn_text.specs.declared.config.ConfigFault.{ConfigFault}
+use Rattle.tls_crypt.specs.declared.static_key.KeyFault.{KeyFault}
+use Rattle.tls_crypt.specs.StaticKey.{static_key}
+use Rattle.ovpn_config.specs.declared.settings.Settings.{Settings}
+use Rattle.ovpn_config.specs.declared.settings.KeyPlace.{KeyPlace}
+use Rattle.ovpn_config.specs.declared.settings.KeyPlace.TheVariants.{Named, Inline}
+use Rattle.ovpn_config.specs.Reading.{settings}
+use Rattle.vpn_top.specs.declared.refusal.Refusal.{Refusal}
+use Rattle.vpn_top.specs.declared.refusal.Refusal.TheVariants as refusals
+use Rattle.vpn_top.specs.Answer.{IsCutOff, exit_status}
+use Rattle.vpn_top.specs.Check.{RanCheck}
+use Rattle.vpn_top.specs.Configuration.{Configured, IsConfigured, IsFrontOf, IsKeyText, IsKeyed, IsMiskeyed, IsTold, IsToldKey, Keyed, Misconfigured, Miskeyed}
+use Rattle.vpn_top.specs.Written.{Run}
+
+-- an answer is not both
+abbrev IsGood : {A E : Type 0} → Result A E → Type 0
+IsGood (Ok a) = Unit {0}
+IsGood (Err e) = ⊥
+
+not_both : {A E : Type 0} (a : A) (e : E) → Ok a ≡ Err e → ⊥
+not_both {A} {E} a e same = subst (λ (r : Result A E). IsGood r) same tt
+
+abbrev ok_or : {A E : Type 0} → A → Result A E → A
+ok_or a (Ok b) = b
+ok_or a (Err e) = a
+
+-- what files tell is what was read
+told_bytes : (h : Holding) (told read : List ℕ) → IsTold h told → IsFrontOf 65536 h read → read ≡ told
+told_bytes Untold told read is front = absurd is
+told_bytes Absent told read is front = absurd is
+told_bytes (Held held) told read is front = front ∙ sym is
+
+told_key : (holds : List ℕ → Holding) (place : KeyPlace) (told read : List ℕ) → IsToldKey holds place told → IsKeyText holds place read → read ≡ told
+told_key holds (Named name) told read is text = told_bytes (holds name) told read is text
+told_key holds (Inline block) told read is text = text ∙ sym is
+
+configured_same : (h : Holding) (s t : Settings) → IsConfigured h s → Configured h t → t ≡ s
+configured_same Untold s t is c = absurd is
+configured_same Absent s t is c = absurd is
+configured_same (Held held) s t is c = ap (ok_or s) (sym c.accepted ∙ ap settings c.front ∙ is)
+
+not_misconfigured : (h : Holding) (s : Settings) (fault : ConfigFault) → IsConfigured h s → Misconfigured h fault → ⊥
+not_misconfigured Untold s fault is m = is
+not_misconfigured Absent s fault is m = is
+not_misconfigured (Held held) s fault is m = not_both s fault (sym is ∙ ap settings (sym m.front) ∙ m.refused)
+
+not_missing : (h : Holding) (s : Settings) → IsConfigured h s → IsMissing h → ⊥
+not_missing Untold s is missing = is
+not_missing Absent s is missing = is
+not_missing (Held held) s is missing = missing
+
+told_not_missing : (h : Holding) (bytes : List ℕ) → IsTold h bytes → IsMissing h → ⊥
+told_not_missing Untold bytes is missing = is
+told_not_missing Absent bytes is missing = is
+told_not_missing (Held held) bytes is missing = missing
+
+-- the key's file is there
+key_there : (holds : List ℕ → Holding) (place : KeyPlace) (file bytes : List ℕ) → place ≡ Named file → IsToldKey holds place bytes → IsMissing (holds file) → ⊥
+key_there holds place file bytes named is missing = told_not_missing (holds file) bytes (subst (λ (p : KeyPlace). IsToldKey holds p bytes) named is) missing
+
+-- with a static key, `check` ends well, or by a fault of the outside or want of memory
+pub checked_end : (holds : List ℕ → Holding) (name subject : List ℕ) (s : Settings) (r : Option Refusal) (run : Run) → RanCheck holds name r subject run → IsConfigured (holds name) s → IsKeyed holds s.key
+    → (exit_status r ≡ 0) ⊎ ((exit_status r ≡ 3) × Rose run.files.0 run.files.1) ⊎ IsCutOff (exit_status r) run.out run.err
+checked_end holds name subject s None run ran is keyed = inl refl
+checked_end holds name subject s (Some refusals.Usage) run ran is keyed = absurd ran
+checked_end holds name subject s (Some (refusals.Line fault)) run ran is keyed = absurd ran
+checked_end holds name subject s (Some (refusals.Config number kind)) run ran is keyed = absurd (not_misconfigured (holds name) s _ is ran.0)
+checked_end holds name subject s (Some (refusals.Key fault)) run ran is keyed =
+    let bad = subst (λ (t : Settings). Miskeyed holds t.key fault) (configured_same (holds name) s ran.0.s is ran.0.configured) ran.0.miskeyed in
+    absurd (not_both keyed.key fault (sym keyed.accepted ∙ ap static_key (sym (told_key holds s.key keyed.bytes bad.bytes keyed.told bad.text)) ∙ bad.refused))
+checked_end holds name subject s (Some refusals.Missing) run (inl same, missing, after) is keyed = absurd (not_missing (holds name) s is (subst (λ (n : List ℕ). IsMissing (holds n)) same missing))
+checked_end holds name subject s (Some refusals.Missing) run (inr file, missing, after) is keyed =
+    absurd (key_there holds s.key subject keyed.bytes (ap (λ (t : Settings). t.key) (sym (configured_same (holds name) s file.s is file.configured)) ∙ file.named) keyed.told missing)
+checked_end holds name subject s (Some refusals.Unreadable) run ran is keyed = inr (inl (refl, ran.2))
+checked_end holds name subject s (Some refusals.Output) run ran is keyed = inr (inr (inl (refl, ran.0)))
+checked_end holds name subject s (Some refusals.NoMemory) run ran is keyed = inr (inr (inr refl))
+
+-- with a faulty text of a static key, it is refused
+pub miskeyed_end : (holds : List ℕ → Holding) (name subject : List ℕ) (s : Settings) (fault : KeyFault) (r : Option Refusal) (run : Run) → RanCheck holds name r subject run → IsConfigured (holds name) s → IsMiskeyed holds s.key fault
+    → (exit_status r ≡ 2) ⊎ ((exit_status r ≡ 3) × Rose run.files.0 run.files.1) ⊎ IsCutOff (exit_status r) run.out run.err
+miskeyed_end holds name subject s fault None run ran is bad =
+    let keyed = subst (λ (t : Settings). Keyed holds t.key) (configured_same (holds name) s ran.s is ran.configured) ran.keyed in
+    absurd (not_both keyed.key fault (sym keyed.accepted ∙ ap static_key (told_key holds s.key bad.bytes keyed.bytes bad.told keyed.text) ∙ bad.refused))
+miskeyed_end holds name subject s fault (Some refusals.Usage) run ran is bad = absurd ran
+miskeyed_end holds name subject s fault (Some (refusals.Line other)) run ran is bad = absurd ran
+miskeyed_end holds name subject s fault (Some (refusals.Config number kind)) run ran is bad = inl refl
+miskeyed_end holds name subject s fault (Some (refusals.Key other)) run ran is bad = inl refl
+miskeyed_end holds name subject s fault (Some refusals.Missing) run (inl same, missing, after) is bad = absurd (not_missing (holds name) s is (subst (λ (n : List ℕ). IsMissing (holds n)) same missing))
+miskeyed_end holds name subject s fault (Some refusals.Missing) run (inr file, missing, after) is bad =
+    absurd (key_there holds s.key subject bad.bytes (ap (λ (t : Settings). t.key) (sym (configured_same (holds name) s file.s is file.configured)) ∙ file.named) bad.told missing)
+miskeyed_end holds name subject s fault (Some refusals.Unreadable) run ran is bad = inr (inl (refl, ran.2))
+miskeyed_end holds name subject s fault (Some refusals.Output) run ran is bad = inr (inr (inl (refl, ran.0)))
+miskeyed_end holds name subject s fault (Some refusals.NoMemory) run ran is bad = inr (inr (inr refl))
