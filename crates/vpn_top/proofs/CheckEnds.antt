@@ -96,3 +96,27 @@ miskeyed_end holds name subject s fault (Some refusals.Missing) run (inr file, m
 miskeyed_end holds name subject s fault (Some refusals.Unreadable) run ran is bad = inr (inl (refl, ran.2))
 miskeyed_end holds name subject s fault (Some refusals.Output) run ran is bad = inr (inr (inl (refl, ran.0)))
 miskeyed_end holds name subject s fault (Some refusals.NoMemory) run ran is bad = inr (inr (inr refl))
+
+-- no text of a static key comes of a file that is absent
+no_front : (h : Holding) (bytes : List ℕ) → h ≡ Absent → IsFrontOf 65536 h bytes → ⊥
+no_front h bytes absent front = subst (λ (x : Holding). IsFrontOf 65536 x bytes) absent front
+
+no_key_text : (holds : List ℕ → Holding) (place : KeyPlace) (file bytes : List ℕ) → place ≡ Named file → holds file ≡ Absent → IsKeyText holds place bytes → ⊥
+no_key_text holds place file bytes named absent text = no_front (holds file) bytes absent (subst (λ (p : KeyPlace). IsKeyText holds p bytes) named text)
+
+-- where the file of the static key is absent, it is named as missing
+pub keyless_end : (holds : List ℕ → Holding) (name subject file : List ℕ) (s : Settings) (r : Option Refusal) (run : Run) → RanCheck holds name r subject run → IsConfigured (holds name) s
+    → s.key ≡ Named file → holds file ≡ Absent → (exit_status r ≡ 3) ⊎ IsCutOff (exit_status r) run.out run.err
+keyless_end holds name subject file s None run ran is named absent =
+    let keyed = subst (λ (t : Settings). Keyed holds t.key) (configured_same (holds name) s ran.s is ran.configured) ran.keyed in
+    absurd (no_key_text holds s.key file keyed.bytes named absent keyed.text)
+keyless_end holds name subject file s (Some refusals.Usage) run ran is named absent = absurd ran
+keyless_end holds name subject file s (Some (refusals.Line fault)) run ran is named absent = absurd ran
+keyless_end holds name subject file s (Some (refusals.Config number kind)) run ran is named absent = absurd (not_misconfigured (holds name) s _ is ran.0)
+keyless_end holds name subject file s (Some (refusals.Key fault)) run ran is named absent =
+    let bad = subst (λ (t : Settings). Miskeyed holds t.key fault) (configured_same (holds name) s ran.0.s is ran.0.configured) ran.0.miskeyed in
+    absurd (no_key_text holds s.key file bad.bytes named absent bad.text)
+keyless_end holds name subject file s (Some refusals.Missing) run ran is named absent = inl refl
+keyless_end holds name subject file s (Some refusals.Unreadable) run ran is named absent = inl refl
+keyless_end holds name subject file s (Some refusals.Output) run ran is named absent = inr (inl (refl, ran.0))
+keyless_end holds name subject file s (Some refusals.NoMemory) run ran is named absent = inr (inr refl)

@@ -8,6 +8,7 @@ ghost use Rattle.route_file.specs.Output.{routes};
 ghost use Rattle.vpn_text.specs.declared.config.ConfigFault.{ConfigFault};
 ghost use Rattle.tls_crypt.specs.declared.static_key.KeyFault.{KeyFault};
 ghost use Rattle.ovpn_config.specs.declared.settings.Settings.{Settings};
+ghost use Rattle.ovpn_config.specs.declared.settings.KeyPlace.TheVariants.{Named};
 ghost use Rattle.vpn_top.specs.Words.{Check, Route, asked, command_of};
 ghost use Rattle.vpn_top.specs.Configuration.{IsConfigured, IsKeyed, IsMisconfigured, IsMiskeyed};
 ghost use Rattle.vpn_top.specs.Answer.{Answered, Finished, IsCutOff, exit_status as status_for};
@@ -217,6 +218,10 @@ pub fn vpn_main<F: Files, S: Sink, E: Sink>(
         ⊎ IsCutOff result.0 (S.faults outside.out, S.faults result.1.out) (E.faults outside.err, E.faults result.1.err) }
     ensures lacking { (name : List ℕ) → command_of (map string_bytes words.now) ≡ Some (Check name) →
         F.holds outside.files name ≡ Absent →
+        (result.0 ≡ 3)
+        ⊎ IsCutOff result.0 (S.faults outside.out, S.faults result.1.out) (E.faults outside.err, E.faults result.1.err) }
+    ensures keyless { (name file : List ℕ) (s : Settings) → command_of (map string_bytes words.now) ≡ Some (Check name) →
+        IsConfigured (F.holds outside.files name) s → s.key ≡ Named file → F.holds outside.files file ≡ Absent →
         (result.0 ≡ 3)
         ⊎ IsCutOff result.0 (S.faults outside.out, S.faults result.1.out) (E.faults outside.err, E.faults result.1.err) }
 
