@@ -1,11 +1,8 @@
-pub mod Forms
-pub mod Keywords
-pub mod BlockBytes
-pub mod Steps
 pub mod Spaced
 pub mod Lined
 pub mod CleanText
 pub mod RoundNumbers
+pub mod FirstLines
 pub mod RoundLines
 pub mod RoundItems
 pub mod RoundTable

@@ -14,19 +14,22 @@ use Rattle.vpn_base.specs.Address.{ip4_of}
 use Rattle.vpn_base.specs.Network.{Network}
 use Rattle.vpn_text.specs.Mask.{masked_network}
 use Rattle.vpn_text.specs.Quoted.{may_be_pushed}
-use Rattle.ovpn_config.specs.declared.item.Item.{Item}
-use Rattle.ovpn_config.specs.declared.item.Item.TheVariants.{Words, Block}
-use Rattle.ovpn_config.specs.declared.item.Directive.{Directive}
-use Rattle.ovpn_config.specs.declared.keyword.Keyword.{Keyword}
-use Rattle.ovpn_config.specs.declared.keyword.Keyword.TheVariants as keywords
+use Rattle.config_directives.specs.declared.item.Item.{Item}
+use Rattle.config_directives.specs.declared.item.Item.TheVariants.{Words, Block}
+use Rattle.config_directives.specs.declared.item.Directive.{Directive}
+use Rattle.config_directives.specs.declared.keyword.Keyword.{Keyword}
+use Rattle.config_directives.specs.declared.keyword.Keyword.TheVariants as keywords
+use Rattle.config_directives.specs.Items.{arguments_of, first_named, given, is_named, items_of, name_of}
+use Rattle.config_directives.specs.Blocks.{block_end}
+use Rattle.config_directives.specs.Arguments.{both, cipher_policy, ciphers_in, if_passes, is_other, is_server_length, keepalive_behind, keepalive_times, local_address, number_in, one_number, one_of, policy_of, port_of, push_text, remote_end, replay_window, route_network, server_network}
+use Rattle.config_directives.specs.Names.{block_names, engine_names, is_among, is_idle, is_refused, outside_names, tunnel_names}
+use Rattle.config_directives.specs.Table.{client_keywords, keyword_of, link_keywords, row_at, session_keywords, table}
+use Rattle.config_directives.specs.Judging.{may_repeat}
 use Rattle.ovpn_config.specs.declared.settings.KeyPlace.{KeyPlace}
 use Rattle.ovpn_config.specs.declared.settings.KeyPlace.TheVariants.{Named, Inline}
-use Rattle.ovpn_config.specs.Items.{arguments_of, first_named, given, is_named, items_of, name_of}
-use Rattle.ovpn_config.specs.Spelling.{block_end, item_text}
-use Rattle.ovpn_config.specs.Arguments.{both, cipher_policy, ciphers_in, if_passes, is_other, is_server_length, keepalive_behind, keepalive_times, local_address, number_in, one_number, one_of, policy_of, port_of, push_text, remote_end, replay_window, route_network, server_network}
-use Rattle.ovpn_config.specs.Values.{default_policy, engine_in, engine_names, is_among, place_of, push_in, route_in}
-use Rattle.ovpn_config.specs.Table.{block_names, cipher_names, client_keywords, is_idle, is_refused, keyword_of, link_keywords, outside_names, row_at, session_keywords, table, tunnel_names}
-use Rattle.ovpn_config.specs.Judging.{may_repeat}
+use Rattle.ovpn_config.specs.Spelling.{item_text}
+use Rattle.ovpn_config.specs.Values.{default_policy, engine_in, place_of, push_in, route_in}
+use Rattle.ovpn_config.specs.Printed.{cipher_names}
 use Rattle.ovpn_config.specs.Reading.{is_astray, is_for_other}
 use Rattle.ovpn_config.specs.Canonical.{lines_with}
 use Rattle.ovpn_config.proofs.CleanText.{and_true, are_clean, both_true, is_clean}

@@ -12,18 +12,19 @@ use Rattle.vpn_base.specs.Address.{ip4_of, ip4_text}
 use Rattle.vpn_base.specs.Network.{Network}
 use Rattle.vpn_text.specs.Mask.{mask_text}
 use Rattle.vpn_text.specs.Quoted.{may_be_pushed}
-use Rattle.ovpn_config.specs.declared.item.Item.{Item}
-use Rattle.ovpn_config.specs.declared.item.Item.TheVariants.{Words}
-use Rattle.ovpn_config.specs.declared.keyword.Keyword.{Keyword}
-use Rattle.ovpn_config.specs.declared.keyword.Keyword.TheVariants as keywords
+use Rattle.config_directives.specs.declared.item.Item.{Item}
+use Rattle.config_directives.specs.declared.item.Item.TheVariants.{Words}
+use Rattle.config_directives.specs.declared.keyword.Keyword.{Keyword}
+use Rattle.config_directives.specs.declared.keyword.Keyword.TheVariants as keywords
+use Rattle.config_directives.specs.Arguments.{both, device_name, if_passes, is_console, is_server_length, keepalive_behind, keepalive_times, local_address, number_in, one_number, port_of, push_text, remote_end, replay_window, route_network, server_network}
+use Rattle.config_directives.specs.Names.{block_names, engine_names, is_among, is_idle, is_refused, outside_names, tunnel_names}
+use Rattle.config_directives.specs.Table.{keyword_of, row_at}
+use Rattle.config_directives.specs.Entries.{begun_by, block_name}
+use Rattle.config_directives.specs.Judging.{takes_words}
 use Rattle.ovpn_config.specs.declared.settings.Settings.{Settings}
 use Rattle.ovpn_config.specs.declared.settings.KeyPlace.{KeyPlace}
 use Rattle.ovpn_config.specs.declared.settings.KeyPlace.TheVariants.{Named, Inline}
-use Rattle.ovpn_config.specs.Arguments.{both, device_name, if_passes, is_console, is_server_length, keepalive_behind, keepalive_times, local_address, number_in, one_number, port_of, push_text, remote_end, replay_window, route_network, server_network}
-use Rattle.ovpn_config.specs.Table.{block_names, cipher_names, is_idle, is_refused, keyword_of, outside_names, row_at, tunnel_names}
-use Rattle.ovpn_config.specs.Values.{engine_names, is_among}
-use Rattle.ovpn_config.specs.Entries.{begun_by, block_name}
-use Rattle.ovpn_config.specs.Judging.{takes_words}
+use Rattle.ovpn_config.specs.Printed.{cipher_names}
 use Rattle.ovpn_config.specs.Reading.{is_for_other}
 use Rattle.ovpn_config.proofs.CleanText.{Laws, are_clean, both_true, clean_decimal, clean_ip4, clean_mask, is_clean}
 use Rattle.ovpn_config.proofs.RoundNumbers.{IsRead, network_again, number_again}

@@ -7,18 +7,18 @@ use Rattle.std.proofs.lemmas.Slice.Eq.{bytes_eq-Decides}
 use Rattle.vpn_base.specs.Lines.{Line, lines_of}
 use Rattle.vpn_text.specs.declared.config.ConfigKind.{ConfigKind}
 use Rattle.vpn_text.specs.Words.{line_words}
-use Rattle.ovpn_config.specs.declared.item.Item.{Item}
-use Rattle.ovpn_config.specs.declared.item.Item.TheVariants.{Words, Block}
-use Rattle.ovpn_config.specs.declared.item.Directive.{Directive}
-use Rattle.ovpn_config.specs.Items.{is_given, items_of, name_of}
-use Rattle.ovpn_config.specs.Spelling.{block_begin, block_end, block_text, item_text, words_text}
-use Rattle.ovpn_config.specs.Values.{is_among}
-use Rattle.ovpn_config.specs.Table.{block_names, is_refused}
-use Rattle.ovpn_config.specs.Entries.{Entry, Given, begun_by, block_begun, block_name, entries, item_begun, outside_entries, until_end}
-use Rattle.ovpn_config.specs.Judging.{is_known, is_open, is_taken, judged, kind_of, may_repeat, unless_wrong}
+use Rattle.config_directives.specs.declared.item.Item.{Item}
+use Rattle.config_directives.specs.declared.item.Item.TheVariants.{Words, Block}
+use Rattle.config_directives.specs.declared.item.Directive.{Directive}
+use Rattle.config_directives.specs.Items.{is_given, items_of, name_of}
+use Rattle.config_directives.specs.Blocks.{block_begin, block_end}
+use Rattle.config_directives.specs.Names.{block_names, is_among, is_refused}
+use Rattle.config_directives.specs.Entries.{Entry, Given, begun_by, block_begun, block_name, entries, item_begun, outside_entries, until_end}
+use Rattle.config_directives.specs.Judging.{is_known, is_open, is_taken, judged, kind_of, may_repeat, unless_wrong}
+use Rattle.ovpn_config.specs.Spelling.{block_text, item_text, words_text}
 use Rattle.ovpn_config.specs.Canonical.{ended, lines_with}
 use Rattle.ovpn_config.proofs.CleanText.{Laws, and_true, are_clean, is_clean}
-use Rattle.ovpn_config.proofs.BlockBytes.{until_found, until_passed}
+use Rattle.ovpn_config.proofs.FirstLines.{until_found, until_passed}
 use Rattle.ovpn_config.proofs.RoundLines.{Fits, content-line, first_fits, inside_line, lines_of-line, outside_line, written_words}
 
 -- a line that may stand within a block

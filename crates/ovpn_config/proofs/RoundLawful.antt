@@ -8,19 +8,20 @@ use Rattle.vpn_base.specs.declared.names.Role.{Role}
 use Rattle.vpn_base.specs.declared.names.Role.TheVariants.{Server, Client}
 use Rattle.vpn_base.specs.Lines.{lines_of}
 use Rattle.vpn_text.specs.declared.config.ConfigFault.{ConfigFault}
-use Rattle.ovpn_config.specs.declared.item.Item.{Item}
-use Rattle.ovpn_config.specs.declared.item.Directive.{Directive}
-use Rattle.ovpn_config.specs.declared.keyword.Keyword.{Keyword}
-use Rattle.ovpn_config.specs.declared.keyword.Keyword.TheVariants as keywords
+use Rattle.config_directives.specs.declared.item.Item.{Item}
+use Rattle.config_directives.specs.declared.item.Directive.{Directive}
+use Rattle.config_directives.specs.declared.keyword.Keyword.{Keyword}
+use Rattle.config_directives.specs.declared.keyword.Keyword.TheVariants as keywords
+use Rattle.config_directives.specs.Items.{arguments_of, first_named, given, is_given, is_named, items_of}
+use Rattle.config_directives.specs.Arguments.{keepalive_times, one_number, one_of, push_text, remote_end, server_network}
+use Rattle.config_directives.specs.Names.{block_names}
+use Rattle.config_directives.specs.Table.{client_keywords, link_keywords, row_at, session_keywords, table}
+use Rattle.config_directives.specs.Entries.{entries}
+use Rattle.config_directives.specs.Judging.{judged}
 use Rattle.ovpn_config.specs.declared.settings.Settings.{Settings}
 use Rattle.ovpn_config.specs.declared.settings.KeyPlace.TheVariants.{Named}
-use Rattle.ovpn_config.specs.Items.{arguments_of, first_named, given, is_given, is_named, items_of}
 use Rattle.ovpn_config.specs.Spelling.{item_text, words_text}
-use Rattle.ovpn_config.specs.Arguments.{keepalive_times, one_number, one_of, push_text, remote_end, server_network}
 use Rattle.ovpn_config.specs.Values.{end_with, place_of, port_given, push_in, settings_of, timers_given}
-use Rattle.ovpn_config.specs.Table.{block_names, client_keywords, link_keywords, row_at, session_keywords, table}
-use Rattle.ovpn_config.specs.Entries.{entries}
-use Rattle.ovpn_config.specs.Judging.{judged}
 use Rattle.ovpn_config.specs.Reading.{is_astray, is_for_other, missing, settings, settings_from, settings_on, side_of_file, unless_astray, unless_missing}
 use Rattle.ovpn_config.proofs.CleanText.{Laws, and_true, both_true}
 use Rattle.ovpn_config.proofs.RoundNumbers.{IsRead}

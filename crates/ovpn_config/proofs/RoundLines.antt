@@ -10,9 +10,9 @@ use Rattle.vpn_text.specs.declared.config.ConfigFault.{ConfigFault}
 use Rattle.vpn_text.specs.declared.config.ConfigKind.TheVariants.{Long, Control}
 use Rattle.vpn_text.specs.ConfigLine.{config_words, words_in}
 use Rattle.vpn_text.specs.Words.{is_control, line_words}
-use Rattle.ovpn_config.specs.Entries.{FileLine, block_behind, block_begun, entries, has_control, inside_entries, line_entries, outside_entries}
+use Rattle.config_directives.specs.Entries.{FileLine, block_behind, block_begun, entries, has_control, inside_entries, line_entries, outside_entries}
 use Rattle.ovpn_config.proofs.CleanText.{Laws, and_true, is_clean, no_control}
-use Rattle.ovpn_config.proofs.Steps.{entries-first, seen}
+use Rattle.ovpn_config.proofs.FirstLines.{entries-first, seen}
 
 -- a line without control bytes has no line feed, and no carriage return at its end
 not_feed : (c : ℕ) → not (is_control c) ≡ true → ((c == 10) ≡ false) × ((c == 13) ≡ false)

@@ -8,7 +8,7 @@ use Rattle.vpn_base.specs.Network.{Network}
 use Rattle.vpn_base.specs.Number.{number_of, is_decimal, value_behind}
 use Rattle.vpn_base.specs.Address.{ip4_of, ip4_text, of_parts, address_of}
 use Rattle.vpn_text.specs.Mask.{length_of, length_upto, mask_number, mask_of, mask_text, masked_network, network_from}
-use Rattle.ovpn_config.specs.Arguments.{if_passes, number_in}
+use Rattle.config_directives.specs.Arguments.{if_passes, number_in}
 use Rattle.ovpn_config.proofs.CleanText.{Laws}
 
 -- a number in its range is read again

@@ -9,14 +9,14 @@ use Rattle.vpn_text.specs.declared.config.ConfigKind.{ConfigKind}
 use Rattle.vpn_text.specs.declared.config.ConfigKind.TheVariants as kinds
 use Rattle.vpn_text.specs.ConfigLine.{config_words, words_in}
 use Rattle.vpn_text.specs.Words.{line_words}
-use Rattle.ovpn_config.specs.declared.item.Item.{Item}
-use Rattle.ovpn_config.specs.declared.item.Item.TheVariants.{Block}
-use Rattle.ovpn_config.specs.declared.item.Directive.{Directive}
-use Rattle.ovpn_config.specs.Items.{items_of, name_of}
-use Rattle.ovpn_config.specs.Spelling.{block_end}
-use Rattle.ovpn_config.specs.Table.{is_refused}
-use Rattle.ovpn_config.specs.Entries.{Entry, begun_by, block_begun, block_behind, entries, has_control, inside_entries, inside_kind, item_begun, line_behind, outside_entries, until_end, words_on}
-use Rattle.ovpn_config.specs.Judging.{is_known, is_open, is_repeated, is_taken, judged, kind_of, unless_wrong}
+use Rattle.config_directives.specs.declared.item.Item.{Item}
+use Rattle.config_directives.specs.declared.item.Item.TheVariants.{Block}
+use Rattle.config_directives.specs.declared.item.Directive.{Directive}
+use Rattle.config_directives.specs.Items.{items_of, name_of}
+use Rattle.config_directives.specs.Blocks.{block_end}
+use Rattle.config_directives.specs.Names.{is_refused}
+use Rattle.config_directives.specs.Entries.{Entry, begun_by, block_begun, block_behind, entries, has_control, inside_entries, inside_kind, item_begun, line_behind, outside_entries, until_end, words_on}
+use Rattle.config_directives.specs.Judging.{is_known, is_open, is_repeated, is_taken, judged, kind_of, unless_wrong}
 use Rattle.ovpn_config.specs.Canonical.{lines_with}
 use Rattle.ovpn_config.proofs.CleanText.{Laws, both_true, clean-any, is_clean}
 use Rattle.ovpn_config.proofs.RoundItems.{CanRead, ended-behind, may_stand}

@@ -10,18 +10,18 @@ use Rattle.vpn_base.specs.Address.{ip4_text}
 use Rattle.vpn_base.specs.Network.{Network}
 use Rattle.vpn_base.specs.declared.names.Role.{Role}
 use Rattle.vpn_text.specs.Mask.{mask_text}
-use Rattle.ovpn_config.specs.declared.item.Item.{Item}
-use Rattle.ovpn_config.specs.declared.item.Item.TheVariants.{Words, Block}
-use Rattle.ovpn_config.specs.declared.keyword.Keyword.{Keyword}
-use Rattle.ovpn_config.specs.declared.keyword.Keyword.TheVariants as keywords
+use Rattle.config_directives.specs.declared.item.Item.{Item}
+use Rattle.config_directives.specs.declared.item.Item.TheVariants.{Words, Block}
+use Rattle.config_directives.specs.declared.keyword.Keyword.{Keyword}
+use Rattle.config_directives.specs.declared.keyword.Keyword.TheVariants as keywords
+use Rattle.config_directives.specs.Items.{first_named, is_given, is_named, name_of}
+use Rattle.config_directives.specs.Names.{engine_names, is_among, is_refused}
+use Rattle.config_directives.specs.Table.{client_keywords, keyword_of, link_keywords, row_at, session_keywords, table}
+use Rattle.config_directives.specs.Judging.{is_known, is_taken, is_open, may_repeat}
 use Rattle.ovpn_config.specs.declared.settings.Settings.{Settings}
 use Rattle.ovpn_config.specs.declared.settings.KeyPlace.{KeyPlace}
 use Rattle.ovpn_config.specs.declared.settings.KeyPlace.TheVariants.{Named, Inline}
-use Rattle.ovpn_config.specs.Items.{first_named, is_given, is_named, name_of}
-use Rattle.ovpn_config.specs.Values.{engine_names, is_among}
-use Rattle.ovpn_config.specs.Table.{cipher_names, client_keywords, keyword_of, link_keywords, row_at, session_keywords, table}
-use Rattle.ovpn_config.specs.Table.{is_refused}
-use Rattle.ovpn_config.specs.Judging.{is_known, is_taken, is_open, may_repeat}
+use Rattle.ovpn_config.specs.Printed.{cipher_names}
 use Rattle.ovpn_config.specs.Reading.{is_for_other}
 use Rattle.ovpn_config.proofs.CleanText.{and_true, both_true}
 use Rattle.ovpn_config.proofs.RoundItems.{AreFine, CanRead, IsFine}

@@ -12,21 +12,22 @@ use Rattle.vpn_base.specs.Address.{ip4_text}
 use Rattle.vpn_base.specs.Network.{Network}
 use Rattle.vpn_base.specs.Lines.{lines_of}
 use Rattle.vpn_text.specs.Quoted.{quoted}
-use Rattle.ovpn_config.specs.declared.item.Item.{Item}
-use Rattle.ovpn_config.specs.declared.item.Item.TheVariants.{Words}
-use Rattle.ovpn_config.specs.declared.item.Directive.{Directive}
-use Rattle.ovpn_config.specs.declared.keyword.Keyword.{Keyword}
-use Rattle.ovpn_config.specs.declared.keyword.Keyword.TheVariants as keywords
+use Rattle.config_directives.specs.declared.item.Item.{Item}
+use Rattle.config_directives.specs.declared.item.Item.TheVariants.{Words}
+use Rattle.config_directives.specs.declared.item.Directive.{Directive}
+use Rattle.config_directives.specs.declared.keyword.Keyword.{Keyword}
+use Rattle.config_directives.specs.declared.keyword.Keyword.TheVariants as keywords
+use Rattle.config_directives.specs.Items.{first_named, is_given, items_of, name_of}
+use Rattle.config_directives.specs.Arguments.{is_console}
+use Rattle.config_directives.specs.Names.{engine_names, is_among}
+use Rattle.config_directives.specs.Table.{client_keywords, keyword_of, link_keywords, row_at, session_keywords, table}
+use Rattle.config_directives.specs.Entries.{entries}
+use Rattle.config_directives.specs.Judging.{judged}
 use Rattle.ovpn_config.specs.declared.settings.Settings.{Settings}
 use Rattle.ovpn_config.specs.declared.settings.KeyPlace.{KeyPlace}
 use Rattle.ovpn_config.specs.declared.settings.KeyPlace.TheVariants.{Named, Inline}
-use Rattle.ovpn_config.specs.Items.{first_named, is_given, items_of, name_of}
 use Rattle.ovpn_config.specs.Spelling.{item_text, words_text}
-use Rattle.ovpn_config.specs.Arguments.{is_console}
-use Rattle.ovpn_config.specs.Values.{engine_names, is_among}
-use Rattle.ovpn_config.specs.Table.{client_keywords, if_there, key_text, keyword_of, link_keywords, remote_text, row_at, session_keywords, switched, table, with_network, with_numbers, with_word}
-use Rattle.ovpn_config.specs.Entries.{entries}
-use Rattle.ovpn_config.specs.Judging.{judged}
+use Rattle.ovpn_config.specs.Printed.{if_there, key_text, printed, remote_text, switched, with_network, with_numbers, with_word}
 use Rattle.ovpn_config.specs.Reading.{is_astray, is_for_other, missing, side_of_file}
 use Rattle.ovpn_config.specs.Canonical.{KeepsLimits, canonical, ended, lines_with, written}
 use Rattle.ovpn_config.proofs.CleanText.{Laws, all-append, and_true, both_true}
@@ -71,7 +72,7 @@ console_text (Some []) holds = let no : is_console [] ≡ true = holds.0 in cc
 console_text (Some (a ∷ words)) holds = refl
 
 text_at : (side : Role) (words : Option (List (List ℕ))) (passed : List Item) (s : Settings) → IsLawful side words passed s
-    → (keyword : Keyword) → lines_with ((row_at keyword).printed s) ≡ items_text (items_at words s keyword)
+    → (keyword : Keyword) → lines_with (printed keyword s) ≡ items_text (items_at words s keyword)
 text_at side words passed s is keywords.Server = there_text (with_network (codes "server")) (λ n. network_item (codes "server") n) s.net (λ a. refl)
 text_at side words passed s is keywords.Client = refl
 text_at side words passed s is keywords.Dev = refl
@@ -104,8 +105,8 @@ text_when false texts items same = same
 text_on : (side : Role) (words : Option (List (List ℕ))) (passed : List Item) (s : Settings) → IsLawful side words passed s
     → (keyword : Keyword) → written s keyword ≡ items_text (items_on side words s keyword)
 text_on side words passed s is keyword =
-    ap (λ (r : Role). lines_with (cond (is_for_other r keyword) [] ((row_at keyword).printed s))) is.role
-    ∙ text_when (is_for_other side keyword) ((row_at keyword).printed s) (items_at words s keyword) (text_at side words passed s is keyword)
+    ap (λ (r : Role). lines_with (cond (is_for_other r keyword) [] (printed keyword s))) is.role
+    ∙ text_when (is_for_other side keyword) (printed keyword s) (items_at words s keyword) (text_at side words passed s is keyword)
 
 text_of_rows : (s : Settings) (items : Keyword → List Item) (rows : List Keyword) → ((k : Keyword) → written s k ≡ items_text (items k))
     → flat_map (written s) rows ≡ items_text (flat_map items rows)

@@ -12,19 +12,20 @@ use Rattle.vpn_base.specs.declared.names.Policy.{Policy}
 use Rattle.vpn_base.specs.Address.{ip4_text}
 use Rattle.vpn_base.specs.Network.{Network}
 use Rattle.vpn_base.specs.Lines.{lines_of}
-use Rattle.ovpn_config.specs.declared.item.Item.{Item}
-use Rattle.ovpn_config.specs.declared.item.Item.TheVariants.{Words}
-use Rattle.ovpn_config.specs.declared.item.Directive.{Directive}
-use Rattle.ovpn_config.specs.declared.keyword.Keyword.{Keyword}
-use Rattle.ovpn_config.specs.declared.keyword.Keyword.TheVariants as keywords
+use Rattle.config_directives.specs.declared.item.Item.{Item}
+use Rattle.config_directives.specs.declared.item.Item.TheVariants.{Words}
+use Rattle.config_directives.specs.declared.item.Directive.{Directive}
+use Rattle.config_directives.specs.declared.keyword.Keyword.{Keyword}
+use Rattle.config_directives.specs.declared.keyword.Keyword.TheVariants as keywords
+use Rattle.config_directives.specs.Items.{arguments_of, first_named, items_of, name_of}
+use Rattle.config_directives.specs.Arguments.{cipher_policy, keepalive_times, local_address, one_number, one_of, push_text, remote_end, replay_window, route_network, server_network}
+use Rattle.config_directives.specs.Names.{engine_names, is_among}
+use Rattle.config_directives.specs.Table.{row_at, table}
 use Rattle.ovpn_config.specs.declared.settings.Settings.{Settings}
 use Rattle.ovpn_config.specs.declared.settings.KeyPlace.{KeyPlace}
 use Rattle.ovpn_config.specs.declared.settings.KeyPlace.TheVariants.{Named, Inline}
-use Rattle.ovpn_config.specs.Items.{arguments_of, first_named, items_of, name_of}
 use Rattle.ovpn_config.specs.Spelling.{item_text, words_text}
-use Rattle.ovpn_config.specs.Arguments.{cipher_policy, keepalive_times, local_address, one_number, one_of, push_text, remote_end, replay_window, route_network, server_network}
-use Rattle.ovpn_config.specs.Values.{default_policy, end_with, engine_in, engine_names, is_among, place_of, port_given, push_in, route_in, settings_of, timers_given}
-use Rattle.ovpn_config.specs.Table.{row_at, table}
+use Rattle.ovpn_config.specs.Values.{default_policy, end_with, engine_in, place_of, port_given, push_in, route_in, settings_of, timers_given}
 use Rattle.ovpn_config.specs.Reading.{is_astray, missing, settings, settings_from, settings_on, side_of_file, unless_astray, unless_missing}
 use Rattle.ovpn_config.specs.Canonical.{KeepsLimits, canonical}
 use Rattle.ovpn_config.proofs.CleanText.{Laws, and_true}

@@ -1,10 +1,6 @@
-pub mod Items
 pub mod Spelling
-pub mod Arguments
 pub mod Values
-pub mod Table
-pub mod Entries
-pub mod Judging
+pub mod Printed
 pub mod Reading
 pub mod Canonical
 pub mod Bounds

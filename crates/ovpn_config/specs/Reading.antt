@@ -6,15 +6,15 @@ use Rattle.vpn_base.specs.declared.names.Role.TheVariants.{Server, Client}
 use Rattle.vpn_base.specs.Lines.{lines_of}
 use Rattle.vpn_text.specs.declared.config.ConfigFault.{ConfigFault}
 use Rattle.vpn_text.specs.declared.config.ConfigKind.TheVariants.{Side, Missing}
-use Rattle.ovpn_config.specs.declared.item.Item.{Item}
-use Rattle.ovpn_config.specs.declared.item.Directive.{Directive}
+use Rattle.config_directives.specs.declared.item.Item.{Item}
+use Rattle.config_directives.specs.declared.item.Directive.{Directive}
+use Rattle.config_directives.specs.Items.{is_given, is_named, items_of, name_of}
+use Rattle.config_directives.specs.declared.keyword.Keyword.{Keyword}
+use Rattle.config_directives.specs.Table.{row_at, table, keyword_of}
+use Rattle.config_directives.specs.Entries.{entries}
+use Rattle.config_directives.specs.Judging.{judged}
 use Rattle.ovpn_config.specs.declared.settings.Settings.{Settings}
-use Rattle.ovpn_config.specs.Items.{is_given, is_named, items_of, name_of}
 use Rattle.ovpn_config.specs.Values.{settings_of}
-use Rattle.ovpn_config.specs.declared.keyword.Keyword.{Keyword}
-use Rattle.ovpn_config.specs.Table.{row_at, table, keyword_of}
-use Rattle.ovpn_config.specs.Entries.{entries}
-use Rattle.ovpn_config.specs.Judging.{judged}
 
 -- the side of a file: that of the first `server` or `client`
 abbrev pub side_of_file : List Item → Option Role

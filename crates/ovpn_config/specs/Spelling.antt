@@ -1,20 +1,14 @@
 -- How directives are written.
-use Rattle.std.specs.Prelude.{ℕ, List, [], ◌∷◌, ◌++◌, map, codes, unwrap_or}
+use Rattle.std.specs.Prelude.{ℕ, List, [], ◌∷◌, ◌++◌, map, unwrap_or}
 use Rattle.std.specs.List.{join_with_byte}
 use Rattle.vpn_text.specs.Quoted.{quoted}
-use Rattle.ovpn_config.specs.declared.item.Item.{Item}
-use Rattle.ovpn_config.specs.declared.item.Item.TheVariants.{Words, Block}
+use Rattle.config_directives.specs.declared.item.Item.{Item}
+use Rattle.config_directives.specs.declared.item.Item.TheVariants.{Words, Block}
+use Rattle.config_directives.specs.Blocks.{block_begin, block_end}
 
 -- words in quotes where they need them, with a space between each two
 abbrev pub words_text : List (List ℕ) → List ℕ
 words_text words = join_with_byte 32 (map quoted words)
-
--- the line that begins a block, `<NAME>`, and the line that ends it, `</NAME>`
-abbrev pub block_begin : List ℕ → List ℕ
-block_begin name = codes "<" ++ name ++ codes ">"
-
-abbrev pub block_end : List ℕ → List ℕ
-block_end name = codes "</" ++ name ++ codes ">"
 
 -- a block with its two outer lines, all of them joined by line feeds; the bytes between are lines
 -- that each end by a line feed

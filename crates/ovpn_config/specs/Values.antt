@@ -1,6 +1,5 @@
 -- What the directives of a file set.
-use Rattle.std.specs.Prelude.{ℕ, Bool, List, [], ◌∷◌, codes, Option, Some, None, option_map, option_and_then, unwrap_or, filter_map, bytes_eq, if◌then◌else◌}
-use Rattle.std.specs.List.{list_any}
+use Rattle.std.specs.Prelude.{ℕ, List, [], codes, Option, Some, None, option_map, option_and_then, unwrap_or, filter_map, if◌then◌else◌}
 use Rattle.vpn_base.specs.declared.address.Ip4.{Ip4}
 use Rattle.vpn_base.specs.declared.address.Addr.{Addr}
 use Rattle.vpn_base.specs.declared.names.Role.{Role}
@@ -9,14 +8,15 @@ use Rattle.vpn_base.specs.declared.names.Policy.{Policy}
 use Rattle.vpn_base.specs.declared.names.Policy.TheVariants.{Choose}
 use Rattle.vpn_base.specs.declared.names.Timers.{Timers}
 use Rattle.vpn_base.specs.Network.{Network}
-use Rattle.ovpn_config.specs.declared.item.Item.{Item}
-use Rattle.ovpn_config.specs.declared.item.Item.TheVariants.{Words, Block}
+use Rattle.config_directives.specs.declared.item.Item.{Item}
+use Rattle.config_directives.specs.declared.item.Item.TheVariants.{Words, Block}
+use Rattle.config_directives.specs.Items.{arguments_of, is_named, name_of, first_named, given, is_given}
+use Rattle.config_directives.specs.Names.{engine_names, is_among}
+use Rattle.config_directives.specs.Arguments.{cipher_policy, keepalive_times, local_address, one_number, one_of, push_text, remote_end, replay_window, route_network, server_network}
 use Rattle.ovpn_config.specs.declared.settings.Settings.{Settings}
 use Rattle.ovpn_config.specs.declared.settings.KeyPlace.{KeyPlace}
 use Rattle.ovpn_config.specs.declared.settings.KeyPlace.TheVariants.{Named, Inline}
-use Rattle.ovpn_config.specs.Items.{arguments_of, is_named, name_of, first_named, given, is_given}
 use Rattle.ovpn_config.specs.Spelling.{item_text, words_text}
-use Rattle.ovpn_config.specs.Arguments.{cipher_policy, keepalive_times, local_address, one_number, one_of, push_text, remote_end, replay_window, route_network, server_network}
 
 -- the one argument of the directive of this name; empty where there is none
 abbrev pub word_given : List ℕ → List Item → List ℕ
@@ -49,16 +49,6 @@ route_in item = if is_named (codes "route") item then route_network (arguments_o
 -- both ciphers
 abbrev pub default_policy : Policy
 default_policy = Choose Aes256Gcm (Some Aes128Gcm)
-
--- the names that are passed to the TLS engine unread
-unfoldable pub engine_names : List (List ℕ)
-engine_names =
-    codes "ca" ∷ codes "cert" ∷ codes "key" ∷ codes "dh" ∷ codes "remote-cert-tls" ∷ codes "verify-x509-name"
-    ∷ codes "tls-version-min" ∷ codes "crl-verify" ∷ codes "tls-cipher" ∷ codes "tls-ciphersuites" ∷ []
-
--- whether the name is one of these
-abbrev pub is_among : List (List ℕ) → List ℕ → Bool
-is_among names name = list_any (λ known. bytes_eq name known) names
 
 -- what is passed to the TLS engine of a directive, if it is for the engine
 abbrev pub engine_in : Item → Option (List ℕ)

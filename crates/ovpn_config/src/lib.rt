@@ -1,14 +1,7 @@
-//! Configuration files: the directives of a server or a client, read into settings and printed
-//! again.
+//! The settings of a server or a client: read from a configuration file, and printed again.
 #![tactic(auto)]
 
-mod arguments;
-mod item;
-mod judging;
-mod keyword;
 mod laws;
-mod lines;
-mod names;
 mod reading;
 mod settings;
 mod spelling;

@@ -3,17 +3,15 @@
 ghost use Rattle.std.specs.Prelude.{◌≡◌, IfOk, find, option_map};
 ghost use Rattle.std.specs.Option.{option_copied};
 ghost use Rattle.vpn_base.specs.Answers.{Answers, IfWhy};
+ghost use Rattle.config_directives.specs.Items.{items_of};
+ghost use Rattle.config_directives.specs.Table.{row_at};
 ghost use Rattle.ovpn_config.specs.Bounds.{IsBounded};
-ghost use Rattle.ovpn_config.specs.Items.{items_of};
-ghost use Rattle.ovpn_config.specs.Table.{row_at};
 ghost use Rattle.ovpn_config.specs.Reading.{are_two, is_astray, is_for_other, missing, settings, settings_on, side_of_file};
 
-use crate::item::{Directive, is_given};
-use crate::keyword::{Keyword, keyword_of};
 use crate::laws::settings_are_bounded;
-use crate::lines::read_directives;
 use crate::settings::Settings;
 use crate::values::settings_of;
+use config_directives::{Directive, Keyword, is_given, keyword_of, read_directives};
 use std::alloc::Global;
 use vpn_base::{NoMemory, Or, Role, Text};
 use vpn_text::{ConfigFault, ConfigKind};
@@ -76,7 +74,7 @@ fn first_astray(role: Role, directives: &[Directive]) -> Option<&Directive>
     None
 }
 
-#[tactic(auto, unfolding(crate::specs::Reading::missing, crate::specs::Table::table, crate::specs::Table::link_keywords, crate::specs::Table::client_keywords, crate::specs::Table::session_keywords))]
+#[tactic(auto, unfolding(crate::specs::Reading::missing, config_directives::specs::Table::table, config_directives::specs::Table::link_keywords, config_directives::specs::Table::client_keywords, config_directives::specs::Table::session_keywords))]
 // The name of the first directive that a file of this side needs and lacks.
 fn missing(role: Role, directives: &[Directive]) -> Option<&'static [u8]>
     ensures { option_copied result ≡ option_map (λ keyword. (row_at keyword).name) (missing role (items_of directives.now)) }

@@ -2,10 +2,10 @@
 
 ghost use Rattle.std.specs.Prelude.{◌≡◌, ◌∷◌, ◌++◌, drop, IfOk, OnOk};
 ghost use Rattle.vpn_text.specs.Quoted.{quoted};
-ghost use Rattle.ovpn_config.specs.Items.{arguments_of};
+ghost use Rattle.config_directives.specs.Items.{arguments_of};
 ghost use Rattle.ovpn_config.specs.Spelling.{block_text, item_text, words_text};
 
-use crate::item::Item;
+use config_directives::Item;
 use std::alloc::Global;
 use vpn_base::{NoMemory, Text, TextList};
 use vpn_text::write_word;

@@ -2,19 +2,17 @@
 
 ghost use Rattle.std.specs.Prelude.{◌≡◌, ◌≤◌, ◌++◌, codes, IfOk, OnOk, filter_map, option_and_then, option_map, option_to_list, unwrap_or};
 ghost use Rattle.std.specs.Option.{option_copied};
-ghost use Rattle.ovpn_config.specs.Items.{given, is_given, items_of};
-ghost use Rattle.ovpn_config.specs.Arguments.{cipher_policy, keepalive_times, local_address, one_of, server_network};
+ghost use Rattle.config_directives.specs.Items.{given, is_given, items_of};
+ghost use Rattle.config_directives.specs.Arguments.{cipher_policy, keepalive_times, local_address, one_of, server_network};
 ghost use Rattle.ovpn_config.specs.Spelling.{words_text};
 ghost use Rattle.ovpn_config.specs.Values.{default_policy, end_with, engine_in, key_given, number_given, place_of, port_given, push_in, remote_given, route_in, settings_of, timers_given, window_given, word_given};
 
-use crate::arguments::{
-    cipher_policy, keepalive_times, local_address, one_number, push_text, remote_end,
-    replay_window, route_network, server_network,
-};
-use crate::item::{Directive, Item, first_named, is_given};
-use crate::names::is_for_engine;
 use crate::settings::{KeyPlace, Settings};
 use crate::spelling::{arguments_text, item_text};
+use config_directives::{
+    Directive, Item, cipher_policy, first_named, is_for_engine, is_given, keepalive_times,
+    local_address, one_number, push_text, remote_end, replay_window, route_network, server_network,
+};
 use std::alloc::Global;
 use vpn_base::{
     Addr, Bytes, Cipher, Ip4, NoMemory, Policy, Prefix, Role, RouteList, Text, TextList, Timers,

@@ -2,16 +2,17 @@
 
 ghost use Rattle.std.specs.Prelude.{◌≡◌, ℕ, List, Ok, [], ◌∷◌, ◌++◌, codes, decimal, map, flat_map, IfOk, OnOk};
 ghost use Rattle.vpn_base.specs.Address.{ip4_text};
+ghost use Rattle.config_directives.specs.Table.{table};
 ghost use Rattle.ovpn_config.specs.Spelling.{words_text};
-ghost use Rattle.ovpn_config.specs.Table.{cipher_names, if_there, key_text, remote_text, row_at, switched, table, with_network, with_number, with_numbers, with_word};
+ghost use Rattle.ovpn_config.specs.Printed.{cipher_names, if_there, key_text, printed, remote_text, switched, with_network, with_number, with_numbers, with_word};
 ghost use Rattle.ovpn_config.specs.Canonical.{KeepsLimits, canonical, lines_with, written};
 ghost use Rattle.ovpn_config.specs.Reading.{settings};
 
-use crate::keyword::{Keyword, table};
 use crate::laws::reads_config_again;
 use crate::reading::is_for_other;
 use crate::settings::{KeyPlace, Settings};
 use crate::spelling::block_text;
+use config_directives::{Keyword, table};
 use itoa::Buffer;
 use std::alloc::Global;
 use vpn_base::{
@@ -241,7 +242,7 @@ fn add_keyword(
     s: &Settings,
     keyword: Keyword,
 ) -> Result<(), NoMemory>
-    ensures { OnOk result (out.new.items ≡ out.old.items ++ lines_with ((row_at keyword).printed s.now)) }
+    ensures { OnOk result (out.new.items ≡ out.old.items ++ lines_with (printed keyword s.now)) }
 {
     match keyword {
         Keyword::Server => add_network_if_there(out, b"server", s.net),

@@ -1,5 +1,5 @@
 use Rattle.std.proofs.Common.{◌≡◌, drop}
-use Rattle.ovpn_config.specs.Items.{items_of}
+use Rattle.config_directives.specs.Items.{items_of}
 use Rattle.ovpn_config.specs.Reading.{side_of_file}
 use Rattle.ovpn_config.proofs.reading.side_of_file.Given as goal
 

@@ -1,6 +1,6 @@
 use Rattle.std.proofs.Common.{◌≡◌, ◌++◌, drop}
 use Rattle.std.specs.Prelude.{filter_map}
-use Rattle.ovpn_config.specs.Items.{items_of}
+use Rattle.config_directives.specs.Items.{items_of}
 use Rattle.ovpn_config.specs.Values.{engine_in}
 use Rattle.ovpn_config.proofs.values.engine_given.Given as goal
 

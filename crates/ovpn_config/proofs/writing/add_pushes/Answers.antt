@@ -1,6 +1,6 @@
 use Rattle.std.proofs.Common.{ℕ, List, [], ◌∷◌, ◌++◌, ap, sym, ◌∙◌}
 use Rattle.std.specs.Prelude.{codes}
-use Rattle.ovpn_config.specs.Table.{with_word}
+use Rattle.ovpn_config.specs.Printed.{with_word}
 use Rattle.ovpn_config.specs.Canonical.{lines_with}
 use Rattle.ovpn_config.proofs.Lined.{lines_more_of}
 use Rattle.ovpn_config.proofs.writing.add_pushes.Goals as goal

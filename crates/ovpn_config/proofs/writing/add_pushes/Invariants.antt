@@ -1,6 +1,6 @@
 use Rattle.std.proofs.Common.{◌≡◌, ◌++◌, drop}
 use Rattle.std.specs.Prelude.{codes, map}
-use Rattle.ovpn_config.specs.Table.{with_word}
+use Rattle.ovpn_config.specs.Printed.{with_word}
 use Rattle.ovpn_config.specs.Canonical.{lines_with}
 use Rattle.ovpn_config.proofs.writing.add_pushes.Given as goal
 

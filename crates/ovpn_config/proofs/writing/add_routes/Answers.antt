@@ -1,6 +1,6 @@
 use Rattle.std.proofs.Common.{sym, ◌∙◌}
 use Rattle.std.specs.Prelude.{codes}
-use Rattle.ovpn_config.specs.Table.{with_network}
+use Rattle.ovpn_config.specs.Printed.{with_network}
 use Rattle.ovpn_config.proofs.Lined.{lines_more_of}
 use Rattle.ovpn_config.proofs.writing.add_routes.Goals as goal
 

@@ -1,0 +1,4 @@
+pub mod Forms
+pub mod Keywords
+pub mod BlockBytes
+pub mod Steps
