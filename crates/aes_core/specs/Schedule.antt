@@ -20,8 +20,10 @@ pub record IsSchedule (words : List ℕ) (rounds : ℕ) : Type 0 where
   pub count : round_count (key_bytes words rounds) ≡ rounds
   pub expanded : schedule_words words rounds ≡ key_expansion (key_bytes words rounds)
 
+-- the key that is kept
 abbrev pub key_of : Inside → List ℕ
 key_of a = key_bytes a.words a.rounds
 
+-- what is kept is the key schedule of that key
 abbrev pub IsExpanded : Inside → Type 0
 IsExpanded a = IsSchedule a.words a.rounds

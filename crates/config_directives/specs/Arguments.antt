@@ -18,15 +18,17 @@ abbrev pub are_none : List (List ℕ) → Bool
 are_none [] = true
 are_none (word ∷ words) = false
 
--- exactly one, two or three
+-- exactly one
 abbrev pub one_of : List (List ℕ) → Option (List ℕ)
 one_of (a ∷ []) = Some a
 one_of _ = None
 
+-- exactly two
 abbrev pub two_of : List (List ℕ) → Option (List ℕ × List ℕ)
 two_of (a ∷ b ∷ []) = Some (a, b)
 two_of _ = None
 
+-- exactly three
 abbrev pub three_of : List (List ℕ) → Option (List ℕ × List ℕ × List ℕ)
 three_of (a ∷ b ∷ c ∷ []) = Some (a, b, c)
 three_of _ = None
@@ -61,6 +63,7 @@ port_of word = number_in 1 65535 word
 abbrev pub is_server_length : Network → Bool
 is_server_length network = nat_le 8 network.len && nat_le network.len 30
 
+-- the network that stands behind `server`
 abbrev pub server_network : List (List ℕ) → Option Network
 server_network arguments = option_and_then (λ (words : List ℕ × List ℕ). if_passes is_server_length (masked_network words.0 words.1)) (two_of arguments)
 
@@ -84,12 +87,14 @@ local_address arguments = option_and_then ip4_of (one_of arguments)
 abbrev pub remote_at : List ℕ → List ℕ → Option (Ip4 × Option ℕ)
 remote_at ip port = both (ip4_of ip) (option_map (λ n. Some n) (port_of port))
 
+-- the server by one word, two or three
 abbrev pub remote_of : Option (List ℕ) → Option (List ℕ × List ℕ) → Option (List ℕ × List ℕ × List ℕ) → Option (Ip4 × Option ℕ)
 remote_of (Some ip) two three = both (ip4_of ip) (Some None)
 remote_of None (Some words) three = remote_at words.0 words.1
 remote_of None None (Some words) = if bytes_eq words.2 (codes "udp") then remote_at words.0 words.1 else None
 remote_of None None None = None
 
+-- the server that stands behind `remote`
 abbrev pub remote_end : List (List ℕ) → Option (Ip4 × Option ℕ)
 remote_end arguments = remote_of (one_of arguments) (two_of arguments) (three_of arguments)
 
@@ -98,6 +103,7 @@ abbrev pub keepalive_behind : Option ℕ → List ℕ → Option (ℕ × ℕ)
 keepalive_behind None restart = None
 keepalive_behind (Some n) restart = both (Some n) (number_in (2 * n) 7200 restart)
 
+-- the seconds that stand behind `keepalive`
 abbrev pub keepalive_times : List (List ℕ) → Option (ℕ × ℕ)
 keepalive_times arguments = option_and_then (λ (words : List ℕ × List ℕ). keepalive_behind (number_in 1 3600 words.0) words.1) (two_of arguments)
 
@@ -111,6 +117,7 @@ route_of (Some net) two = masked_network net (codes "255.255.255.255")
 route_of None (Some words) = masked_network words.0 words.1
 route_of None None = None
 
+-- the network that stands behind `route`
 abbrev pub route_network : List (List ℕ) → Option Network
 route_network arguments = route_of (one_of arguments) (two_of arguments)
 
@@ -140,9 +147,11 @@ with_more (Some (Choose first None)) more = Some (Choose first (find (is_other f
 with_more (Some (Choose first (Some second))) more = Some (Choose first (Some second))
 with_more (Some (Fixed only)) more = Some (Fixed only)
 
+-- the ciphers of a list of names between colons
 abbrev pub ciphers_in : List ℕ → List Cipher
 ciphers_in names = filter_map cipher_named (slice_split (λ byte. byte == 58) names)
 
+-- the policy that stands behind `data-ciphers`
 abbrev pub cipher_policy : List (List ℕ) → Option Policy
 cipher_policy arguments = option_and_then (λ names. policy_of (ciphers_in names)) (one_of arguments)
 
@@ -152,6 +161,7 @@ replay_of (Some width) two = both (number_in 1 1024 width) (Some 15)
 replay_of None (Some words) = both (number_in 1 1024 words.0) (number_in 0 600 words.1)
 replay_of None None = None
 
+-- the width and the seconds that stand behind `replay-window`
 abbrev pub replay_window : List (List ℕ) → Option (ℕ × ℕ)
 replay_window arguments = replay_of (one_of arguments) (two_of arguments)
 
@@ -159,5 +169,6 @@ replay_window arguments = replay_of (one_of arguments) (two_of arguments)
 abbrev pub is_place : List ℕ × List ℕ → Bool
 is_place words = bytes_eq words.1 (codes "unix") || is_some (both (ip4_of words.0) (port_of words.1))
 
+-- whether a place for the management console stands behind `management`
 abbrev pub is_console : List (List ℕ) → Bool
 is_console arguments = option_map_or is_place (two_of arguments) false

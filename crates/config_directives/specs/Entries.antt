@@ -57,6 +57,7 @@ abbrev pub item_begun : Option (List ℕ) → List (List ℕ) → List Line → 
 item_begun None words lines = Words words
 item_begun (Some name) words lines = Block name (until_end (block_end name) lines)
 
+-- the same, by the words alone
 abbrev pub item_on : List (List ℕ) → List Line → Item
 item_on words lines = item_begun (begun_by words) words lines
 
@@ -90,6 +91,7 @@ abbrev pub block_begun : Result (List (List ℕ)) ConfigFault → Option (List �
 block_begun (Err fault) = None
 block_begun (Ok words) = option_map block_end (begun_by words)
 
+-- the same, where a block may be around the line
 abbrev pub block_behind : Option (List ℕ) → FileLine → Option (List ℕ)
 block_behind None line = block_begun (words_on line)
 block_behind (Some last) line = if bytes_eq line.bytes last then None else Some last

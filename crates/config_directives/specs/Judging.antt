@@ -23,6 +23,7 @@ is_known (Block name bytes) = is_among block_names name
 abbrev pub takes_words : List ℕ → List (List ℕ) → Bool
 takes_words name words = option_map_or (λ keyword. (row_at keyword).takes words) (keyword_of name) true
 
+-- the same of a directive; a block has no arguments
 abbrev pub is_taken : Item → Bool
 is_taken (Words words) = takes_words (name_of (Words words)) (arguments_of (Words words))
 is_taken (Block name bytes) = true

@@ -12,34 +12,38 @@ engine_names =
     codes "ca" ∷ codes "cert" ∷ codes "key" ∷ codes "dh" ∷ codes "remote-cert-tls" ∷ codes "verify-x509-name"
     ∷ codes "tls-version-min" ∷ codes "crl-verify" ∷ codes "tls-cipher" ∷ codes "tls-ciphersuites" ∷ []
 
--- the names that are accepted without effect: those of the process and its logs, and those of the session
+-- the names that are accepted without effect: those of the process and its logs
 unfoldable pub process_names : List (List ℕ)
 process_names =
     codes "verb" ∷ codes "mute" ∷ codes "status" ∷ codes "log" ∷ codes "log-append" ∷ codes "daemon"
     ∷ codes "writepid" ∷ codes "user" ∷ codes "group" ∷ codes "persist-key" ∷ codes "persist-tun"
     ∷ codes "ifconfig-pool-persist" ∷ []
 
+-- those of the session
 unfoldable pub session_names : List (List ℕ)
 session_names =
     codes "nobind" ∷ codes "resolv-retry" ∷ codes "float" ∷ codes "sndbuf" ∷ codes "rcvbuf" ∷ codes "cipher"
     ∷ codes "data-ciphers-fallback" ∷ codes "auth" ∷ codes "auth-nocache" ∷ codes "mute-replay-warnings"
     ∷ codes "pull" ∷ codes "tls-client" ∷ codes "tls-server" ∷ []
 
+-- whether the name is accepted without effect
 abbrev pub is_idle : List ℕ → Bool
 is_idle name = is_among process_names name || is_among session_names name
 
--- the names that are refused: those of the tunnel's packets, and those of what stands outside it
+-- the names that are refused: those of the tunnel's packets
 unfoldable pub tunnel_names : List (List ℕ)
 tunnel_names =
     codes "compress" ∷ codes "comp-lzo" ∷ codes "fragment" ∷ codes "mssfix" ∷ codes "tun-mtu" ∷ codes "tls-auth"
     ∷ codes "tls-crypt-v2" ∷ codes "secret" ∷ codes "explicit-exit-notify" ∷ codes "server-bridge"
     ∷ codes "server-ipv6" ∷ codes "multihome" ∷ []
 
+-- those of what stands outside the tunnel
 unfoldable pub outside_names : List (List ℕ)
 outside_names =
     codes "auth-user-pass" ∷ codes "plugin" ∷ codes "up" ∷ codes "down" ∷ codes "script-security"
     ∷ codes "client-connect" ∷ codes "client-disconnect" ∷ codes "http-proxy" ∷ codes "socks-proxy" ∷ []
 
+-- whether the name is refused
 abbrev pub is_refused : List ℕ → Bool
 is_refused name = is_among tunnel_names name || is_among outside_names name
 

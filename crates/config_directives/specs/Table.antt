@@ -20,17 +20,20 @@ pub record Row : Type 0 where
   -- whether these are its arguments
   pub takes : List (List ℕ) → Bool
 
--- needed on no side, on both, or on one
+-- needed on no side
 abbrev pub nowhere : Role → Bool
 nowhere role = false
 
+-- needed on both
 abbrev pub everywhere : Role → Bool
 everywhere role = true
 
+-- needed at a server
 abbrev pub at_server : Role → Bool
 at_server Server = true
 at_server Client = false
 
+-- needed at a client
 abbrev pub at_client : Role → Bool
 at_client Server = false
 at_client Client = true

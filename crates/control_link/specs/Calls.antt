@@ -39,6 +39,7 @@ after_flush l f = record {
   end = if f.spent then Some WrapSpent else None;
 }
 
+-- what the plain texts of a link's control packets begin with
 abbrev pub head_of : Link → Sid → Head
 head_of l remote = record { kid = l.kid; first = l.first; remote = remote }
 
@@ -86,6 +87,7 @@ abbrev pub put_if : recv.Receiving → Option ℕ → List ℕ → recv.Receivin
 put_if r None payload = r
 put_if r (Some id) payload = recv.put_into r id payload
 
+-- what came of it; one without a packet id is dropped
 abbrev pub got_by : recv.Receiving → Option ℕ → Got
 got_by r None = Ahead
 got_by r (Some id) = recv.got r id
@@ -106,12 +108,15 @@ past_reset r = if r.read == 0 then recv.after_next r else r
 abbrev pub given_by : recv.Receiving → Option (List ℕ)
 given_by r = if r.read == 0 then None else recv.next_payload r
 
+-- the receiving side once that payload was given
 abbrev pub after_given : recv.Receiving → recv.Receiving
 after_given r = if r.read == 0 then r else recv.after_next r
 
+-- the next payload of the text of a link, if it is here
 unfoldable pub next_text : Link → Option (List ℕ)
 next_text l = given_by (past_reset l.receiving)
 
+-- the link once that payload was given
 unfoldable pub after_text : Link → Link
 after_text l = record l { receiving = after_given (past_reset l.receiving) }
 
@@ -122,6 +127,7 @@ abbrev pub unless_memory : {A : Type 0} → Result A (Or LinkEnd) → Outcome �
 unless_memory (Err Memory) outcome before = before
 unless_memory _ outcome before = outcome
 
+-- control datagrams that all go to one address
 abbrev pub datagrams_to : Addr → List (List ℕ) → List Datagram
 datagrams_to to datagrams = map (λ bytes. record { to = to; bytes = bytes }) datagrams
 

@@ -82,6 +82,7 @@ course_after most c o = record {
   end = option_or c.end o.end;
 }
 
+-- after one event
 unfoldable pub after_event : ℕ → Sid → Course → EventAt → Course
 after_event most remote c e = course_after most c (event_comes c.link c.envelope e.0 remote e.1.0)
 

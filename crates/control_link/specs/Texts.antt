@@ -23,5 +23,6 @@ abbrev pub arrival_of : Option ℕ → List ℕ → List Arrival
 arrival_of None payload = []
 arrival_of (Some id) payload = (id, payload) ∷ []
 
+-- what all of these bring, in order
 abbrev pub arrivals_of : List ControlForm → List Arrival
 arrivals_of packets = flat_map (λ v. arrival_of v.id v.payload) packets

@@ -7,10 +7,12 @@ use Rattle.aes_core.proofs.InPlace.{length-xor_bytes, xor_bytes_twice}
 use Rattle.gcm_seal.specs.Gcm.{cipher_text, counter_ciphers, gcm, gctr, hash_of, inc32, pre_counter_block, tag_of}
 use Rattle.gcm_seal.specs.Sealed.{Sealed}
 
+-- GCTR keeps the length
 pub length-gctr : (key initial bytes : List ℕ) → length (gctr key initial bytes) ≡ length bytes
 unfolding gctr
 length-gctr key initial bytes = length-xor_bytes bytes (counter_ciphers key initial (div_ceil (length bytes) 16))
 
+-- and undoes itself
 pub gctr_twice : (key initial bytes : List ℕ) → gctr key initial (gctr key initial bytes) ≡ bytes
 unfolding gctr
 gctr_twice key initial bytes =

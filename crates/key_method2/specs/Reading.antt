@@ -13,6 +13,7 @@ use Rattle.key_method2.specs.Message.{opening}
 use Rattle.key_method2.specs.Judging.{kind_at}
 
 infixl 10 ◌>>=◌
+-- what comes next, where nothing has stopped the reading
 abbrev pub ◌>>=◌ : {A B : Type 0} → Result A Stop → (A → Result B Stop) → Result B Stop
 (Ok x) >>= f = f x
 (Err stop) >>= f = Err stop

@@ -11,6 +11,7 @@ use Rattle.ovpn_config.specs.Reading.{is_for_other}
 abbrev pub ended : List ℕ → List ℕ
 ended text = text ++ 10 ∷ []
 
+-- all of them with their ends
 abbrev pub lines_with : List (List ℕ) → List ℕ
 lines_with texts = flat_map ended texts
 

@@ -49,11 +49,12 @@ abbrev pub key_text : KeyPlace → List ℕ
 key_text (Named name) = with_word (codes "tls-crypt") name
 key_text (Inline bytes) = block_text (codes "tls-crypt") bytes
 
--- the ciphers of a policy, and their names joined by colons
+-- the ciphers of a policy
 abbrev pub ciphers_of : Policy → List Cipher
 ciphers_of (Choose first second) = first ∷ option_to_list second
 ciphers_of (Fixed only) = only ∷ []
 
+-- their names, joined by colons
 abbrev pub cipher_names : Policy → List ℕ
 cipher_names policy = join_with_byte 58 (map cipher_name (ciphers_of policy))
 

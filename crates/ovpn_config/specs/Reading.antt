@@ -47,10 +47,12 @@ missing role items = find (λ keyword. (row_at keyword).needed role && not (is_g
 abbrev pub lacks : ℕ → List ℕ → Result Settings ConfigFault
 lacks last name = Err (record { line = last; kind = Missing; word = name })
 
+-- the settings, unless this directive is missing
 abbrev pub unless_missing : ℕ → Option Keyword → Settings → Result Settings ConfigFault
 unless_missing last None settings = Ok settings
 unless_missing last (Some keyword) settings = lacks last (row_at keyword).name
 
+-- a directive on the wrong side is a fault of its line
 abbrev pub unless_astray : Option Directive → Result Settings ConfigFault → Result Settings ConfigFault
 unless_astray None later = later
 unless_astray (Some d) later = Err (record { line = d.line; kind = Side; word = name_of d.item })
@@ -62,6 +64,7 @@ settings_on last (Some role) directives =
     unless_astray (find (is_astray role) directives)
     (unless_missing last (missing role (items_of directives)) (settings_of role (items_of directives)))
 
+-- the settings of directives that were read, or the fault that came of them
 abbrev pub settings_from : ℕ → Result (List Directive) ConfigFault → Result Settings ConfigFault
 settings_from last (Err fault) = Err fault
 settings_from last (Ok directives) = settings_on last (side_of_file (items_of directives)) directives

@@ -59,6 +59,7 @@ abbrev pub place_of : Item → KeyPlace
 place_of (Words words) = Named (unwrap_or (one_of (arguments_of (Words words))) [])
 place_of (Block name bytes) = Inline (unwrap_or bytes [])
 
+-- the place of the static key; without a `tls-crypt` a file of no name
 abbrev pub key_given : List Item → KeyPlace
 key_given items = unwrap_or (option_map place_of (first_named (codes "tls-crypt") items)) (Named [])
 
@@ -66,6 +67,7 @@ key_given items = unwrap_or (option_map place_of (first_named (codes "tls-crypt"
 abbrev pub window_given : List Item → ℕ × ℕ
 window_given items = unwrap_or (option_and_then replay_window (given (codes "replay-window") items)) (64, 15)
 
+-- the timers of a file
 unfoldable pub timers_given : List Item → Timers
 timers_given items = record {
   reneg = number_given (codes "reneg-sec") 0 1000000 3600 items;

@@ -22,6 +22,7 @@ unsent bytes = record { bytes = bytes; sendings = []; acknowledged = false }
 abbrev pub begun : ℕ → Sending
 begun timeout = record { timeout = timeout; started = false; pieces = unsent [] ∷ [] }
 
+-- the peer's own packet 0 is here
 abbrev pub peer_started : Sending → Sending
 peer_started s = record s { started = true }
 
@@ -33,6 +34,7 @@ cut_into zero bytes = []
 cut_into (suc most) [] = []
 cut_into (suc most) (b ∷ bytes) = take 1100 (b ∷ bytes) ∷ cut_into most (drop 1100 (b ∷ bytes))
 
+-- bytes in as many pieces as there are
 abbrev pub cut : List ℕ → List (List ℕ)
 cut bytes = cut_into (length bytes) bytes
 
@@ -45,6 +47,7 @@ unacknowledged (p ∷ pieces) = (if p.acknowledged then 0 else length p.bytes) +
 unfoldable pub is_full : Sending → List ℕ → Bool
 is_full s bytes = nat_lt 65536 (unacknowledged s.pieces + length bytes) || nat_lt (2 ^ 32) (length s.pieces + length (cut bytes))
 
+-- bytes were offered: their pieces stand behind all others
 unfoldable pub offered : Sending → List ℕ → Sending
 offered s bytes = record s { pieces = s.pieces ++ map unsent (cut bytes) }
 
@@ -60,6 +63,7 @@ acknowledge id [] = []
 acknowledge zero (p ∷ pieces) = (if was_sent p then record p { acknowledged = true } else p) ∷ pieces
 acknowledge (suc id) (p ∷ pieces) = p ∷ acknowledge id pieces
 
+-- an id was acknowledged
 unfoldable pub acked : Sending → ℕ → Sending
 acked s id = record s { pieces = acknowledge id s.pieces }
 
@@ -110,5 +114,6 @@ send id now [] = []
 send zero now (p ∷ pieces) = record p { sendings = now ∷ p.sendings } ∷ pieces
 send (suc id) now (p ∷ pieces) = p ∷ send id now pieces
 
+-- a piece was sent
 unfoldable pub sent : Sending → ℕ → ℕ → Sending
 sent s id now = record s { pieces = send id now s.pieces }

@@ -27,6 +27,7 @@ pub record Table : Type 0 where
   pub between : Bool
   pub keys : List PacketKey
 
+-- nothing is set up
 abbrev pub empty_table : Table
 empty_table = record { rows = []; subnet = None; between = false; keys = [] }
 
@@ -35,6 +36,7 @@ abbrev pub client_text : Option Cid → List ℕ
 client_text None = codes "none"
 client_text (Some cid) = decimal cid.0
 
+-- a verdict
 abbrev pub verdict_text : Verdict → List ℕ
 verdict_text verdicts.NotIp = codes "drop not-ip"
 verdict_text verdicts.TooLong = codes "drop too-long"
@@ -67,6 +69,7 @@ pub record Outcome : Type 0 where
   pub printed : List ℕ
   pub fault : Option (ℕ × TextKind)
 
+-- an outcome behind a text that was printed
 abbrev pub printed_before : List ℕ → Outcome → Outcome
 printed_before text outcome = record outcome { printed = text ++ outcome.printed }
 

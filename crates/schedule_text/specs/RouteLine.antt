@@ -30,6 +30,7 @@ abbrev pub subnet_of : Option Network → Result RouteLine TextKind
 subnet_of None = Err kinds.Address
 subnet_of (Some network) = Ok (lines.Subnet network)
 
+-- the same, by its one word
 abbrev pub subnet_line : Option (List ℕ) → Result RouteLine TextKind
 subnet_line None = Err kinds.Words
 subnet_line (Some word) = subnet_of (network_of word)
@@ -44,6 +45,7 @@ add_of None network = Err kinds.Number
 add_of (Some cid) None = Err kinds.Address
 add_of (Some cid) (Some network) = Ok (lines.Add network (record { 0 = cid }))
 
+-- the same, by its two words
 abbrev pub add_line : Option (List ℕ × List ℕ) → Result RouteLine TextKind
 add_line None = Err kinds.Words
 add_line (Some words) = add_of (client_of words.1) (network_of words.0)
@@ -53,6 +55,7 @@ abbrev pub leave_of : Option ℕ → Result RouteLine TextKind
 leave_of None = Err kinds.Number
 leave_of (Some cid) = Ok (lines.Leave (record { 0 = cid }))
 
+-- the same, by its one word
 abbrev pub leave_line : Option (List ℕ) → Result RouteLine TextKind
 leave_line None = Err kinds.Words
 leave_line (Some word) = leave_of (client_of word)
@@ -62,6 +65,7 @@ abbrev pub owner_of : Option Ip4 → Result RouteLine TextKind
 owner_of None = Err kinds.Address
 owner_of (Some a) = Ok (lines.Owner a)
 
+-- the same, by its one word
 abbrev pub owner_line : Option (List ℕ) → Result RouteLine TextKind
 owner_line None = Err kinds.Words
 owner_line (Some word) = owner_of (ip4_of word)
@@ -72,6 +76,7 @@ from_of None packet = Err kinds.Number
 from_of (Some cid) None = Err kinds.Digits
 from_of (Some cid) (Some packet) = Ok (lines.From (record { 0 = cid }) packet)
 
+-- the same, by its two words
 abbrev pub from_line : Option (List ℕ × List ℕ) → Result RouteLine TextKind
 from_line None = Err kinds.Words
 from_line (Some words) = from_of (client_of words.0) (bytes_of words.1)
@@ -81,6 +86,7 @@ abbrev pub device_of : Option (List ℕ) → Result RouteLine TextKind
 device_of None = Err kinds.Digits
 device_of (Some packet) = Ok (lines.Device packet)
 
+-- the same, by its one word
 abbrev pub device_line : Option (List ℕ) → Result RouteLine TextKind
 device_line None = Err kinds.Words
 device_line (Some word) = device_of (bytes_of word)
@@ -100,6 +106,7 @@ command_line command arguments =
     else if bytes_eq command (codes "unseal") then unseal_line arguments
     else Err kinds.Words
 
+-- by all words
 abbrev pub words_line : List (List ℕ) → Result RouteLine TextKind
 words_line [] = Err kinds.Words
 words_line (command ∷ arguments) = command_line command arguments

@@ -61,10 +61,11 @@ unfoldable pub key_line : List (List ℕ) → Result RouteLine TextKind
 key_line (cid ∷ kid ∷ cipher ∷ key ∷ iv ∷ []) = key_under (cipher_of cipher) cid kid key iv
 key_line _ = Err kinds.Words
 
--- the longest HEX words, in characters
+-- the longest HEX word of `seal`, in characters
 abbrev pub longest_seal : ℕ
 longest_seal = 3000
 
+-- the longest HEX word of `unseal`, in characters
 abbrev pub longest_unseal : ℕ
 longest_unseal = 3048
 
@@ -88,7 +89,7 @@ unseal_of (Some cid) (Some kid) (Some datagram) = Ok (lines.Unseal (record { 0 =
 unseal_of (Some cid) (Some kid) None = Err kinds.Digits
 unseal_of cid kid datagram = Err kinds.Number
 
--- likewise
+-- a HEX word that is too long is the first fault here as well
 unfoldable pub unseal_line : List (List ℕ) → Result RouteLine TextKind
 unseal_line (cid ∷ kid ∷ datagram ∷ more) =
     if nat_lt longest_unseal (length datagram) then Err kinds.Long

@@ -18,15 +18,17 @@ abbrev pub arguments_of : Option (List ℕ) → List (List ℕ)
 arguments_of None = []
 arguments_of (Some text) = words_of text
 
--- no words, or exactly so many
+-- no words
 abbrev pub are_none : List (List ℕ) → Bool
 are_none [] = true
 are_none (word ∷ words) = false
 
+-- exactly one
 abbrev pub one_of : List (List ℕ) → Option (List ℕ)
 one_of (a ∷ []) = Some a
 one_of _ = None
 
+-- exactly two
 abbrev pub two_of : List (List ℕ) → Option (List ℕ × List ℕ)
 two_of (a ∷ b ∷ []) = Some (a, b)
 two_of _ = None
@@ -36,6 +38,7 @@ abbrev pub network_at : Option Ip4 → Option ℕ → Option Network
 network_at (Some net) (Some len) = if net.0 % 2 ^ (32 - len) == 0 then Some (record { net = net; len = len }) else None
 network_at _ _ = None
 
+-- the same, of the two words that spell it
 abbrev pub network_of_parts : Option (List ℕ × List ℕ) → Option Network
 network_of_parts None = None
 network_of_parts (Some parts) = network_at (ip4_of parts.0) (number_of 32 parts.1)

@@ -20,22 +20,26 @@ readable f fits = record { peer = fits.peer; id = fits.id; tag = fits.tag }
 abbrev pub id_in : List ℕ → ℕ
 id_in datagram = from_be_bytes w32 (take 4 (drop 4 datagram))
 
+-- a peer id of 24 bits is read from its three bytes
 peer_again : (peer : ℕ) → peer < 2 ^ 24 → from_be_bytes w32 (0 ∷ three_bytes peer) ≡ peer
 peer_again peer small = omega arith
 
--- each part stands in its place
+-- the peer id stands in its place
 pub peer_read : (f : DataForm) → IsReadable f → peer_in (data_packet f) ≡ f.peer
 unfolding data_packet data_head
 peer_read f fits = peer_again f.peer fits.peer
 
+-- the packet id
 pub id_read : (f : DataForm) → IsReadable f → id_in (data_packet f) ≡ f.id
 unfolding data_packet data_head
 id_read f fits = from_be_bytes-to_be_bytes_4 f.id fits.id
 
+-- the tag
 pub tag_read : (f : DataForm) → IsReadable f → take 16 (drop 8 (data_packet f)) ≡ f.tag
 unfolding data_packet data_head
 tag_read f fits = take_at f.tag f.sealed 16 fits.tag
 
+-- the cipher text
 pub text_read : (f : DataForm) → IsReadable f → drop 24 (data_packet f) ≡ f.sealed
 unfolding data_packet data_head
 text_read f fits = drop_at f.tag f.sealed 16 fits.tag
@@ -45,6 +49,7 @@ pub length_read : (f : DataForm) (datagram : List ℕ) → IsReadable f → data
 unfolding data_packet data_head
 length_read f datagram fits is = omega (arith, ap length is, length-append f.tag f.sealed, fits.tag)
 
+-- a form with the same key id and the same cipher text is the same
 same_form : (f : DataForm) (kid : ℕ) (text : List ℕ) → f.kid ≡ kid → f.sealed ≡ text →
     f ≡ record { kid = kid; peer = f.peer; id = f.id; tag = f.tag; sealed = text }
 same_form f kid text is_kid is_text = rw (← is_kid, ← is_text) refl

@@ -35,21 +35,24 @@ cipher_text_twice keys mac plain =
     ap (λ (n : ℕ). xor_bytes (xor_bytes plain (stream (length plain))) (stream n)) (length-xor_bytes plain (stream (length plain)))
     ∙ xor_bytes_twice plain (stream (length plain))
 
--- the parts of a datagram
+-- a datagram begins with its header
 pub datagram_front : (keys : Keys) (front plain : List ℕ) → length front ≡ 17 → take 17 (datagram keys front plain) ≡ front
 unfolding datagram
 datagram_front keys front plain size =
     ap (take 17) (append_assoc front (tag keys front plain) (cipher_text keys (tag keys front plain) plain)) ∙ take_at front _ 17 size
 
+-- behind the header stand the tag and the cipher text
 pub datagram_behind : (keys : Keys) (front plain : List ℕ) → length front ≡ 17 → drop 17 (datagram keys front plain) ≡ tag keys front plain ++ cipher_text keys (tag keys front plain) plain
 unfolding datagram
 datagram_behind keys front plain size =
     ap (drop 17) (append_assoc front (tag keys front plain) (cipher_text keys (tag keys front plain) plain)) ∙ drop_at front _ 17 size
 
+-- the tag
 pub datagram_tag : (keys : Keys) (front plain : List ℕ) → length front ≡ 17 → take 32 (drop 17 (datagram keys front plain)) ≡ tag keys front plain
 datagram_tag keys front plain size =
     ap (take 32) (datagram_behind keys front plain size) ∙ take_at (tag keys front plain) _ 32 (length-tag keys front plain)
 
+-- the cipher text
 pub datagram_text : (keys : Keys) (front plain : List ℕ) → length front ≡ 17 → drop 49 (datagram keys front plain) ≡ cipher_text keys (tag keys front plain) plain
 unfolding datagram
 datagram_text keys front plain size =
@@ -62,22 +65,25 @@ datagram_plain keys front plain size =
     ∙ ap (cipher_text keys (tag keys front plain)) (datagram_text keys front plain size)
     ∙ cipher_text_twice keys (tag keys front plain) plain
 
--- the parts of a header
+-- the session id of a header
 header_sid : (first : ℕ) (sid : List ℕ) (id time : ℕ) → length sid ≡ 8 → take 8 (drop 1 (header first sid id time)) ≡ sid
 unfolding header
 header_sid first sid id time size =
     ap (take 8) (append_assoc sid (to_be_bytes w32 id) (to_be_bytes w32 time)) ∙ take_at sid _ 8 size
 
+-- the packet id
 header_id : (first : ℕ) (sid : List ℕ) (id time : ℕ) → length sid ≡ 8 → take 4 (drop 9 (header first sid id time)) ≡ to_be_bytes w32 id
 unfolding header
 header_id first sid id time size =
     ap (λ (l : List ℕ). take 4 (drop 8 l)) (append_assoc sid (to_be_bytes w32 id) (to_be_bytes w32 time)) ∙ ap (take 4) (drop_at sid (to_be_bytes w32 id ++ to_be_bytes w32 time) 8 size)
 
+-- the time
 header_time : (first : ℕ) (sid : List ℕ) (id time : ℕ) → length sid ≡ 8 → drop 13 (header first sid id time) ≡ to_be_bytes w32 time
 unfolding header
 header_time first sid id time size =
     drop_at (sid ++ to_be_bytes w32 id) (to_be_bytes w32 time) 12 (length-append sid (to_be_bytes w32 id) ∙ ap (λ (n : ℕ). n + 4) size)
 
+-- the first byte
 header_first : (first : ℕ) (sid : List ℕ) (id time : ℕ) → get_or (header first sid id time) 0 0 ≡ first
 unfolding header
 header_first first sid id time = refl

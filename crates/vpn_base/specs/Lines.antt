@@ -14,6 +14,7 @@ lines_of_parts [] = []
 lines_of_parts (last ∷ []) = if length last == 0 then [] else record { body = last; ended = false } ∷ []
 lines_of_parts (part ∷ next ∷ parts) = record { body = part; ended = true } ∷ lines_of_parts (next ∷ parts)
 
+-- the lines of a text
 unfoldable pub lines_of : List ℕ → List Line
 lines_of text = lines_of_parts (slice_split (λ c. c == 10) text)
 

@@ -39,6 +39,7 @@ given_of Absent failing at room = Err faults.Missing
 given_of (Held bytes) true at room = Err faults.Failed
 given_of (Held bytes) false at room = Ok (take room (drop at bytes))
 
+-- what a call gives of a file, from a place on
 abbrev pub given : FileStore → List ℕ → ℕ → ℕ → Result (List ℕ) FileFault
 given store name at room = given_of (holding store.held name) (is_failing store.failing store.calls) at room
 
@@ -70,9 +71,11 @@ pub record SinkStore : Type 0 where
 abbrev pub fails : SinkStore → Bool
 fails sink = (sink.room - length sink.held == 0) || is_failing sink.failing sink.calls
 
+-- how many bytes of a piece are written: as many as there is room for
 abbrev pub accepted : SinkStore → List ℕ → Result ℕ Failed
 accepted sink piece = if fails sink then Err (record {}) else Ok (min (length piece) (sink.room - length sink.held))
 
+-- the sink after the call
 abbrev pub after_write : SinkStore → List ℕ → SinkStore
 after_write sink piece =
     if fails sink then record sink { calls = counted sink.calls; faults = counted sink.faults }

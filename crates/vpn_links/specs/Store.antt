@@ -25,6 +25,7 @@ kept_action store (kept.Say span) = Say (part store span)
 kept_action store (kept.Report note) = Report note
 kept_action store kept.Stop = Stop
 
+-- a staged control datagram, with its bytes
 abbrev pub staged_datagram : List ℕ → Staged → Datagram
 staged_datagram store s = record { to = s.to; bytes = part store s.span }
 
@@ -32,6 +33,7 @@ staged_datagram store s = record { to = s.to; bytes = part store s.span }
 abbrev pub IsWithin : ℕ → Span → Type 0
 IsWithin size span = span.start + span.len ≤ size
 
+-- the place of what is kept does, if it has one
 abbrev pub IsKeptWithin : ℕ → Kept → Type 0
 IsKeptWithin size (kept.Wire to span) = IsWithin size span
 IsKeptWithin size (kept.EnginePut conn span) = IsWithin size span
@@ -41,6 +43,7 @@ IsKeptWithin size (kept.Ask cid span) = IsWithin size span
 IsKeptWithin size (kept.Say span) = IsWithin size span
 IsKeptWithin size _ = Unit {0}
 
+-- the place of a staged datagram does
 abbrev pub IsStagedWithin : ℕ → Staged → Type 0
 IsStagedWithin size s = IsWithin size s.span
 
