@@ -10,27 +10,22 @@ use Rattle.route_file.specs.Output.{routes}
 use Rattle.vpn_top.specs.declared.refusal.Refusal.{Refusal}
 use Rattle.vpn_top.specs.declared.refusal.Refusal.TheVariants as refusals
 use Rattle.vpn_top.specs.Messages.{refusal_line}
-use Rattle.vpn_top.specs.Partly.{AppendedPart}
 use Rattle.vpn_top.specs.Written.{Printed, PrintedPart, Run}
 use Rattle.vpn_top.specs.Ends.{Ended, Counts}
 use Rattle.vpn_top.specs.Answer.{RanRoute, Told}
 use Rattle.vpn_top.proofs.Runs.{file_of}
 
--- all of a text is a front of it
-whole_part : (before after : Option (List ℕ)) (text : List ℕ) → after ≡ appended before text → AppendedPart before after text
-whole_part before after text is = record { length = length text; is = is ∙ ap (appended before) (sym (take-length text)) }
-
 -- the line of a refusal tells it
-pub told_line : (name : List ℕ) (r : Refusal) (before after : Option (List ℕ)) (line : List ℕ) → after ≡ appended before line → line ≡ refusal_line name r →
-    Told name (Some r) before after
-told_line name refusals.Usage before after line wrote is = wrote ∙ ap (appended before) is
-told_line name (refusals.Line fault) before after line wrote is = wrote ∙ ap (appended before) is
-told_line name (refusals.Config number kind) before after line wrote is = wrote ∙ ap (appended before) is
-told_line name (refusals.Key fault) before after line wrote is = wrote ∙ ap (appended before) is
-told_line name refusals.Missing before after line wrote is = wrote ∙ ap (appended before) is
-told_line name refusals.Unreadable before after line wrote is = wrote ∙ ap (appended before) is
-told_line name refusals.Output before after line wrote is = (refusals.Output, whole_part before after (refusal_line name refusals.Output) (wrote ∙ ap (appended before) is))
-told_line name refusals.NoMemory before after line wrote is = wrote ∙ ap (appended before) is
+pub told_line : (name : List ℕ) (r : Refusal) (faults : ℕ × ℕ) (before after : Option (List ℕ)) (line : List ℕ) → after ≡ appended before line → line ≡ refusal_line name r →
+    Told name (Some r) faults before after
+told_line name refusals.Usage faults before after line wrote is = wrote ∙ ap (appended before) is
+told_line name (refusals.Line fault) faults before after line wrote is = wrote ∙ ap (appended before) is
+told_line name (refusals.Config number kind) faults before after line wrote is = wrote ∙ ap (appended before) is
+told_line name (refusals.Key fault) faults before after line wrote is = wrote ∙ ap (appended before) is
+told_line name refusals.Missing faults before after line wrote is = wrote ∙ ap (appended before) is
+told_line name refusals.Unreadable faults before after line wrote is = wrote ∙ ap (appended before) is
+told_line name refusals.Output faults before after line wrote is = inl (wrote ∙ ap (appended before) is)
+told_line name refusals.NoMemory faults before after line wrote is = wrote ∙ ap (appended before) is
 
 -- all of an output is a front of it
 printed_part : (h : Holding) (before after : Option (List ℕ)) (fault : Option (ℕ × TextKind)) → Printed h before after fault → PrintedPart h before after

@@ -41,17 +41,21 @@ Ran None holds refusal subject run = RanNothing refusal run
 Ran (Some (Route name)) holds refusal subject run = (subject ≡ name) × RanRoute refusal (holds name) run
 Ran (Some (Check name)) holds refusal subject run = RanCheck holds name refusal subject run
 
--- what was written to the error output: nothing, the refusal's line, or where a write failed the front of a refusal's line
-abbrev pub Told : List ℕ → Option Refusal → Option (List ℕ) → Option (List ℕ) → Type 0
-Told subject None before after = after ≡ before
-Told subject (Some refusals.Output) before after = (refusal : Refusal) × AppendedPart before after (refusal_line subject refusal)
-Told subject (Some refusal) before after = after ≡ appended before (refusal_line subject refusal)
+-- a write to the error output failed, and a front of a refusal's line was written there
+abbrev pub IsHalfTold : List ℕ → ℕ × ℕ → Option (List ℕ) → Option (List ℕ) → Type 0
+IsHalfTold subject faults before after = Rose faults.0 faults.1 × ((refusal : Refusal) × AppendedPart before after (refusal_line subject refusal))
+
+-- what was written to the error output, by its counts of faults before and after: nothing, or the refusal's line, which may be cut off only where the error output failed
+abbrev pub Told : List ℕ → Option Refusal → ℕ × ℕ → Option (List ℕ) → Option (List ℕ) → Type 0
+Told subject None faults before after = after ≡ before
+Told subject (Some refusals.Output) faults before after = (after ≡ appended before (refusal_line subject refusals.Output)) ⊎ IsHalfTold subject faults before after
+Told subject (Some refusal) faults before after = after ≡ appended before (refusal_line subject refusal)
 
 -- what a command has written to the output and to the error output, by the refusal that it ended with
 pub record Finished (command : Option Command) (holds : List ℕ → Holding) (refusal : Option Refusal) (run : Run) (err_before err_after : Option (List ℕ)) : Type 0 where
   pub subject : List ℕ
   pub ran : Ran command holds refusal subject run
-  pub told : Told subject refusal err_before err_after
+  pub told : Told subject refusal run.err err_before err_after
 
 -- the call ended in one of these ways, with its status
 pub record Answered (command : Option Command) (holds : List ℕ → Holding) (status : ℕ) (run : Run) (err_before err_after : Option (List ℕ)) : Type 0 where

@@ -9,4 +9,4 @@ use Rattle.vpn_top.specs.Answer.{Told}
 abbrev pub Tells : List ℕ → Refusal → Refusal → Option (List ℕ) → Option (List ℕ) → ℕ → ℕ → Type 0
 Tells name refusal told before after faults_before faults_after =
     ((told ≡ refusal) ⊎ (told ≡ refusals.NoMemory) ⊎ ((told ≡ refusals.Output) × Rose faults_before faults_after))
-    × Told name (Some told) before after
+    × Told name (Some told) (faults_before, faults_after) before after

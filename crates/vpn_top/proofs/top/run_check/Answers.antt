@@ -18,5 +18,5 @@ returns-in-Some-clause-finished g c =
     record {
       subject = c.in-Some.refused.subject;
       ran = check_told c.in-Some.refused.refusal c.tell.result (g.F.Files.holds c.args.files.now) c.args.name.now c.in-Some.refused.subject run ran c.tell.ensures.told.0;
-      told = subst (λ (subject : List ℕ). Told subject (Some c.tell.result) (g.E.Sink.contents c.args.err.now) (g.E.Sink.contents c.tell.new.err)) c.as_slice.ensures c.tell.ensures.told.1;
+      told = subst (λ (subject : List ℕ). Told subject (Some c.tell.result) run.err (g.E.Sink.contents c.args.err.now) (g.E.Sink.contents c.tell.new.err)) c.as_slice.ensures c.tell.ensures.told.1;
     }

@@ -16,5 +16,5 @@ returns-in-Some-clause-finished g c =
     record {
       subject = c.args.name.now;
       ran = (refl, ran_told c.in-Some.refusal c.tell.result (g.F.Files.holds c.args.files.now c.args.name.now) run (rw c.as_bytes.ensures.value at c.in-Some.ensures.ended) c.tell.ensures.told.0);
-      told = subst (λ (subject : List ℕ). Told subject (Some c.tell.result) (g.E.Sink.contents c.args.err.now) (g.E.Sink.contents c.tell.new.err)) c.as_bytes-in-Some.ensures.value c.tell.ensures.told.1;
+      told = subst (λ (subject : List ℕ). Told subject (Some c.tell.result) run.err (g.E.Sink.contents c.args.err.now) (g.E.Sink.contents c.tell.new.err)) c.as_bytes-in-Some.ensures.value c.tell.ensures.told.1;
     }
