@@ -55,31 +55,34 @@ pub record IsKeyFile (holding : Holding) (file : List ℕ) : Type 0 where
 abbrev pub IsWanted : (List ℕ → Holding) → List ℕ → List ℕ → Type 0
 IsWanted holds name file = (file ≡ name) ⊎ IsKeyFile (holds name) file
 
--- where everything is told: the file holds these settings, or this fault
+-- where everything is told: the file holds these settings
 abbrev pub IsConfigured : Holding → Settings → Type 0
 IsConfigured (Held held) s = settings (take 65537 held) ≡ Ok s
 IsConfigured _ s = ⊥
 
+-- where everything is told: the file has this fault
 abbrev pub IsMisconfigured : Holding → ConfigFault → Type 0
 IsMisconfigured (Held held) fault = settings (take 65537 held) ≡ Err fault
 IsMisconfigured _ fault = ⊥
 
--- where everything is told: the text of the static key is this
+-- where everything is told: the text of a static key in this file is this
 abbrev pub IsTold : Holding → List ℕ → Type 0
 IsTold (Held held) bytes = bytes ≡ take 65536 held
 IsTold _ bytes = ⊥
 
+-- the same of a static key in a file or in a block
 abbrev pub IsToldKey : (List ℕ → Holding) → KeyPlace → List ℕ → Type 0
 IsToldKey holds (Named name) bytes = IsTold (holds name) bytes
 IsToldKey holds (Inline block) bytes = bytes ≡ take 65536 block
 
--- it holds a key, or has this fault
+-- where everything is told: the text of the static key holds a key
 pub record IsKeyed (holds : List ℕ → Holding) (place : KeyPlace) : Type 0 where
   pub bytes : List ℕ
   pub told : IsToldKey holds place bytes
   pub key : List ℕ
   pub accepted : static_key bytes ≡ Ok key
 
+-- where everything is told: the text of the static key has this fault
 pub record IsMiskeyed (holds : List ℕ → Holding) (place : KeyPlace) (fault : KeyFault) : Type 0 where
   pub bytes : List ℕ
   pub told : IsToldKey holds place bytes

@@ -13,6 +13,7 @@ IsFront Untold at bytes = Unit {0}
 IsFront Absent at bytes = bytes ≡ []
 IsFront (Held held) at bytes = (bytes ≡ take at held) × (at ≤ length held)
 
+-- so many bytes were read, and what was written and what the reader keeps give the file's output, whatever follows
 pub record Going (holding : Holding) (before after : Option (List ℕ)) (at : ℕ) (reader : Progress) : Type 0 where
   pub bytes : List ℕ
   pub written : List ℕ

@@ -10,6 +10,7 @@ use Rattle.tls_crypt.specs.declared.static_key.KeyKind.TheVariants as key_kinds
 use Rattle.vpn_top.specs.declared.refusal.Refusal.{Refusal}
 use Rattle.vpn_top.specs.declared.refusal.Refusal.TheVariants as refusals
 
+-- the kind of a faulty line of a route file
 abbrev pub kind_text : TextKind → List ℕ
 kind_text kinds.Header = codes "header"
 kind_text kinds.Words = codes "words"
@@ -44,7 +45,7 @@ abbrev pub word_text : List ℕ → List ℕ
 word_text [] = []
 word_text (c ∷ cs) = 32 ∷ c ∷ cs
 
--- without its line feed; the subject is the name of the file, or the word of the faulty line
+-- the line of a refusal, without its line feed; the subject is the name of the file, or the word of the faulty line
 abbrev pub refusal_text : List ℕ → Refusal → List ℕ
 refusal_text subject refusals.Usage = codes "usage: vpn route|check|replay|server|client|lab"
 refusal_text subject (refusals.Line fault) = codes "line " ++ decimal fault.line ++ codes ": " ++ kind_text fault.kind
@@ -55,6 +56,7 @@ refusal_text subject refusals.Unreadable = codes "unreadable " ++ subject
 refusal_text subject refusals.Output = codes "output"
 refusal_text subject refusals.NoMemory = codes "no memory"
 
+-- the same with its line feed
 abbrev pub refusal_line : List ℕ → Refusal → List ℕ
 refusal_line subject refusal = refusal_text subject refusal ++ 10 ∷ []
 

@@ -15,11 +15,12 @@ use Rattle.vpn_base.specs.Sink.{appended}
 use Rattle.vpn_top.specs.Partly.{AppendedPart}
 use Rattle.vpn_top.specs.Configuration.{IsFrontOf, Misconfigured, Miskeyed}
 
--- the refusal, if there is one, and what its line names
+-- the refusal, if there is one
 abbrev pub refusal_in : Option Refused → Option Refusal
 refusal_in None = None
 refusal_in (Some r) = Some r.refusal
 
+-- what its line names
 abbrev pub subject_in : Option Refused → List ℕ
 subject_in None = []
 subject_in (Some r) = r.subject
@@ -51,29 +52,31 @@ abbrev pub gone_refusal : FileFault → Refusal
 gone_refusal faults.Missing = refusals.Missing
 gone_refusal faults.Failed = refusals.Unreadable
 
--- a text holds a static key, or is refused with its fault
+-- a text holds a static key
 pub record HasKey (text : List ℕ) : Type 0 where
   pub key : List ℕ
   pub accepted : static_key text ≡ Ok key
 
+-- a text is refused with its fault
 pub record LacksKey (text : List ℕ) (refusal : Refusal) : Type 0 where
   pub fault : KeyFault
   pub is : refusal ≡ refusals.Key fault
   pub refused : static_key text ≡ Err fault
 
--- the file holds a static key
+-- the front of a file that counts holds a static key
 pub record KeyedBy (holding : Holding) : Type 0 where
   pub bytes : List ℕ
   pub text : IsFrontOf 65536 holding bytes
   pub key : List ℕ
   pub accepted : static_key bytes ≡ Ok key
 
--- or not
+-- the front of a file that counts has this fault of a static key
 pub record MiskeyedBy (holding : Holding) (fault : KeyFault) : Type 0 where
   pub bytes : List ℕ
   pub text : IsFrontOf 65536 holding bytes
   pub refused : static_key bytes ≡ Err fault
 
+-- the same of a static key in a file
 abbrev pub KeyFileEnded : (List ℕ → Holding) → List ℕ → ℕ × ℕ → Refusal → List ℕ → Type 0
 KeyFileEnded holds name files (refusals.Key fault) subject = MiskeyedBy (holds name) fault
 KeyFileEnded holds name files refusals.Missing subject = (subject ≡ name) × IsGone (holds name) files refusals.Missing
