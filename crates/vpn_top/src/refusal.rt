@@ -19,7 +19,7 @@ pub enum Refusal {
     Line(RouteFault),
     /// A line of the configuration is faulty, or lacks something.
     Config {
-        /// The line, from 1.
+        /// The line, from 1, or 0 where a file with no line lacks something.
         line: u32,
         /// What is wrong.
         kind: ConfigKind,
