@@ -463,6 +463,26 @@ fn faults(rt: HostRuntime) {
 }
 
 #[test]
+fn networks_and_pushed_texts_at_their_ends(rt: HostRuntime) -> Result<(), Fail> {
+    let rest = b"dev tun\ntopology subnet\ntls-crypt ta.key\n";
+    for line in [
+        b"server 10.0.0.0 255.0.0.0\n".as_slice(),
+        b"server 10.8.0.4 255.255.255.252\n",
+    ] {
+        assert!(rt; is_accepted(rt.alloc(), line, rest), "{line:?}");
+    }
+    let mut push = Vec::new(rt.alloc());
+    push.extend_from_slice(b"push ")?;
+    for _ in 0..255u32 {
+        push.push(b'x')?;
+    }
+    assert!(rt; is_accepted(rt.alloc(), SERVER, &push));
+    push.push(b'x')?;
+    assert!(rt; is_refused(rt.alloc(), SERVER, &push, 5, ConfigKind::Arguments, b"push"));
+    Ok(())
+}
+
+#[test]
 fn limits(rt: HostRuntime) -> Result<(), Fail> {
     let comment = vec![in rt.alloc(); b'#'; 1_024]?;
     assert!(rt; is_accepted(rt.alloc(), SERVER, &comment));
