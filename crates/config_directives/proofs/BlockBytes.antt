@@ -1,32 +1,33 @@
 -- The bytes of a block, line by line.
-use Rattle.std.proofs.Common.{◌≡◌, ℕ, List, [], ◌∷◌, ◌++◌, Bool, true, false, cond, Option, Some, None, refl, ap, sym, ◌∙◌}
+use Rattle.std.proofs.Common.{◌≡◌, ℕ, ◌+◌, ◌||◌, List, [], ◌∷◌, ◌++◌, Bool, true, false, cond, Option, Some, None, refl, ap, sym, ◌∙◌}
 use Rattle.std.specs.Prelude.{option_map, bytes_eq}
 use Rattle.std.proofs.lemmas.List.{append_assoc, append-nil}
-use Rattle.vpn_base.specs.Lines.{Line, content, lines_of}
-use Rattle.config_directives.specs.Entries.{until_end}
+use Rattle.vpn_base.specs.Lines.{Line, content, lines_of, size}
+use Rattle.config_directives.specs.Entries.{is_over, until_end}
 
--- the line that ends the block
-pub until_found : (last line : List ℕ) (first : Line) (lines later : List Line) → lines ≡ first ∷ later → content first ≡ line
-    → true ≡ bytes_eq line last → until_end last lines ≡ Some []
+-- the line that ends the block, or in which the file grows too long
+pub until_found : (last line : List ℕ) (before : ℕ) (first : Line) (lines later : List Line) → lines ≡ first ∷ later → content first ≡ line
+    → true ≡ (is_over (before + size first) || bytes_eq line last) → until_end last before lines ≡ Some []
 unfolding until_end
-until_found last line first lines later begins shows found =
-    ap (until_end last) begins
-    ∙ ap (λ (l : List ℕ). cond (bytes_eq l last) (Some []) (option_map (λ (more : List ℕ). content first ++ 10 ∷ more) (until_end last later))) shows
-    ∙ ap (λ (b : Bool). cond b (Some []) (option_map (λ (more : List ℕ). content first ++ 10 ∷ more) (until_end last later))) (sym found)
+until_found last line before first lines later begins shows found =
+    ap (until_end last before) begins
+    ∙ ap (λ (l : List ℕ). cond (is_over (before + size first) || bytes_eq l last) (Some []) (option_map (λ (more : List ℕ). content first ++ 10 ∷ more) (until_end last (before + size first) later))) shows
+    ∙ ap (λ (b : Bool). cond b (Some []) (option_map (λ (more : List ℕ). content first ++ 10 ∷ more) (until_end last (before + size first) later))) (sym found)
 
 -- another line
-pub until_passed : (last line : List ℕ) (first : Line) (lines later : List Line) → lines ≡ first ∷ later → content first ≡ line
-    → false ≡ bytes_eq line last → until_end last lines ≡ option_map (λ (more : List ℕ). line ++ 10 ∷ more) (until_end last later)
+pub until_passed : (last line : List ℕ) (before : ℕ) (first : Line) (lines later : List Line) → lines ≡ first ∷ later → content first ≡ line
+    → false ≡ (is_over (before + size first) || bytes_eq line last)
+    → until_end last before lines ≡ option_map (λ (more : List ℕ). line ++ 10 ∷ more) (until_end last (before + size first) later)
 unfolding until_end
-until_passed last line first lines later begins shows other =
-    ap (until_end last) begins
-    ∙ ap (λ (l : List ℕ). cond (bytes_eq l last) (Some []) (option_map (λ (more : List ℕ). l ++ 10 ∷ more) (until_end last later))) shows
-    ∙ ap (λ (b : Bool). cond b (Some []) (option_map (λ (more : List ℕ). line ++ 10 ∷ more) (until_end last later))) (sym other)
+until_passed last line before first lines later begins shows other =
+    ap (until_end last before) begins
+    ∙ ap (λ (l : List ℕ). cond (is_over (before + size first) || bytes_eq l last) (Some []) (option_map (λ (more : List ℕ). l ++ 10 ∷ more) (until_end last (before + size first) later))) shows
+    ∙ ap (λ (b : Bool). cond b (Some []) (option_map (λ (more : List ℕ). line ++ 10 ∷ more) (until_end last (before + size first) later))) (sym other)
 
 -- no line
-pub until_over : (last text : List ℕ) → text ≡ [] → until_end last (lines_of text) ≡ None
+pub until_over : (last : List ℕ) (before : ℕ) (text : List ℕ) → text ≡ [] → until_end last before (lines_of text) ≡ None
 unfolding until_end lines_of
-until_over last text none = ap (λ (t : List ℕ). until_end last (lines_of t)) none
+until_over last before text none = ap (λ (t : List ℕ). until_end last before (lines_of t)) none
 
 -- bytes in front of a line in front of more
 pub behind_line : (bytes line : List ℕ) (more : Option (List ℕ))

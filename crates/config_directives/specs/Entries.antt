@@ -17,19 +17,23 @@ pub data Entry : Type 0 where
   Given : Directive → Entry
   Faulty : ConfigFault → Entry
 
--- a line of the file without its end, its number from 1, and whether the file passes 65,536 bytes with it
+-- a line of the file without its end, its number from 1, and how many bytes the file has up to its end
 pub record FileLine : Type 0 where
   pub number : ℕ
   pub bytes : List ℕ
-  pub passes : Bool
+  pub reached : ℕ
 
 -- the line of these
-abbrev pub line_with : ℕ → List ℕ → Bool → FileLine
-line_with number bytes passes = record { number = number; bytes = bytes; passes = passes }
+abbrev pub line_with : ℕ → List ℕ → ℕ → FileLine
+line_with number bytes reached = record { number = number; bytes = bytes; reached = reached }
 
 -- a line behind so many lines, which have so many bytes with their ends
 abbrev pub line_behind : ℕ → ℕ → Line → FileLine
-line_behind number before line = line_with (number + 1) (content line) (nat_lt 65536 (before + size line))
+line_behind number before line = line_with (number + 1) (content line) (before + size line)
+
+-- whether a file that has so many bytes up to the end of a line is too long with it
+abbrev pub is_over : ℕ → Bool
+is_over reached = nat_lt 65536 reached
 
 -- NAME of a word <NAME>; it is not empty and does not begin with a slash
 unfoldable pub block_name : List ℕ → Option (List ℕ)
@@ -44,28 +48,33 @@ begun_by _ = None
 
 -- the words of a line outside a block, or what is wrong with the line itself
 abbrev pub words_on : FileLine → Result (List (List ℕ)) ConfigFault
-words_on line = config_words line.number line.bytes line.passes
+words_on line = config_words line.number line.bytes (is_over line.reached)
 
--- the lines in front of the first that is this one, each ended by a line feed; None where none is
-unfoldable pub until_end : List ℕ → List Line → Option (List ℕ)
-until_end last [] = None
-until_end last (line ∷ lines) =
-    if bytes_eq (content line) last then Some [] else option_map (λ more. content line ++ 10 ∷ more) (until_end last lines)
+-- the lines in front of the first that is this one, each ended by a line feed, behind so many bytes of the
+-- file; None where none is. Where the file grows too long on the way the fault is that of the line where it
+-- does, whatever ends the block behind it, and what is given here is not looked at
+unfoldable pub until_end : List ℕ → ℕ → List Line → Option (List ℕ)
+until_end last before [] = None
+until_end last before (line ∷ lines) =
+    if is_over (before + size line) || bytes_eq (content line) last then Some []
+    else option_map (λ more. content line ++ 10 ∷ more) (until_end last (before + size line) lines)
 
--- the directive of a line of these words, which these lines follow
-abbrev pub item_begun : Option (List ℕ) → List (List ℕ) → List Line → Item
-item_begun None words lines = Words words
-item_begun (Some name) words lines = Block name (until_end (block_end name) lines)
+-- the directive of a line of these words, up to whose end the file has so many bytes, and which these
+-- lines follow
+abbrev pub item_begun : Option (List ℕ) → List (List ℕ) → ℕ → List Line → Item
+item_begun None words reached lines = Words words
+item_begun (Some name) words reached lines = Block name (until_end (block_end name) reached lines)
 
 -- the same, by the words alone
-abbrev pub item_on : List (List ℕ) → List Line → Item
-item_on words lines = item_begun (begun_by words) words lines
+abbrev pub item_on : List (List ℕ) → ℕ → List Line → Item
+item_on words reached lines = item_begun (begun_by words) words reached lines
 
 -- what a line outside a block holds: nothing, where it has no words
-abbrev pub outside_entries : ℕ → Result (List (List ℕ)) ConfigFault → List Line → List Entry
-outside_entries number (Err fault) lines = Faulty fault ∷ []
-outside_entries number (Ok []) lines = []
-outside_entries number (Ok (word ∷ words)) lines = Given (record { line = number; item = item_on (word ∷ words) lines }) ∷ []
+abbrev pub outside_entries : ℕ → Result (List (List ℕ)) ConfigFault → ℕ → List Line → List Entry
+outside_entries number (Err fault) reached lines = Faulty fault ∷ []
+outside_entries number (Ok []) reached lines = []
+outside_entries number (Ok (word ∷ words)) reached lines =
+    Given (record { line = number; item = item_on (word ∷ words) reached lines }) ∷ []
 
 -- whether a line has a control byte
 abbrev pub has_control : List ℕ → Bool
@@ -83,8 +92,8 @@ inside_entries number (Some kind) = Faulty (record { line = number; kind = kind;
 
 -- what a line holds; the first argument is the line that ends the block around it, if there is one
 abbrev pub line_entries : Option (List ℕ) → FileLine → List Line → List Entry
-line_entries None line lines = outside_entries line.number (words_on line) lines
-line_entries (Some last) line lines = inside_entries line.number (inside_kind line.bytes line.passes)
+line_entries None line lines = outside_entries line.number (words_on line) line.reached lines
+line_entries (Some last) line lines = inside_entries line.number (inside_kind line.bytes (is_over line.reached))
 
 -- the line that ends the block around what follows the line
 abbrev pub block_begun : Result (List (List ℕ)) ConfigFault → Option (List ℕ)

@@ -1,11 +1,11 @@
 //! The lines of a file, read into directives.
 
-ghost use Rattle.std.specs.Prelude.{◌≡◌, List, [], bytes_eq, if◌then◌else◌, IsSome, length, option_and_then, false, None, Some, Ok, Err, IfOk, IfErr, OnOk, option_map};
+ghost use Rattle.std.specs.Prelude.{◌≡◌, ◌≤◌, ◌-◌, ◌||◌, List, [], bytes_eq, if◌then◌else◌, IsSome, length, option_and_then, false, None, Some, Ok, Err, IfOk, IfErr, OnOk, option_map};
 ghost use Rattle.std.specs.Option.{option_copied};
 ghost use Rattle.vpn_base.specs.Answers.{IfWhy};
 ghost use Rattle.vpn_base.specs.Lines.{Line, lines_of};
 ghost use Rattle.config_directives.specs.Blocks.{block_end};
-ghost use Rattle.config_directives.specs.Entries.{begun_by, block_behind, block_name, entries, has_control, inside_kind, item_on, line_entries, line_with, until_end};
+ghost use Rattle.config_directives.specs.Entries.{begun_by, block_behind, block_name, entries, has_control, inside_kind, is_over, item_on, line_entries, line_with, until_end};
 ghost use Rattle.config_directives.specs.Judging.{Adds, Stops, judged};
 
 use crate::item::{Directive, Item};
@@ -66,14 +66,30 @@ fn block_end(alloc: Global, name: &[u8]) -> Result<Text, NoMemory>
     Ok(Text::of(line))
 }
 
-// The lines in front of the first that is this one, each ended by a line feed.
-fn until_end(alloc: Global, last: &[u8], text: &[u8]) -> Result<Option<Bytes>, NoMemory>
-    ensures { IfOk result (λ bytes. bytes ≡ until_end last.now (lines_of text.now)) }
+// Whether a block is read no further than a line: it is the last one, or the file is too long with the
+// bytes up to its end.
+fn ends_block(last: &[u8], line: &[u8], reached: usize) -> bool
+    ensures { result ≡ is_over reached || bytes_eq line.now last.now }
+{
+    reached > LONGEST_FILE || line == last
+}
+
+// The lines in front of the first that is this one, each ended by a line feed. The text stands at the
+// end of a file of so many bytes; where that is too long, what is given from the line on in which it
+// becomes so does not matter.
+fn until_end(
+    alloc: Global,
+    last: &[u8],
+    size: usize,
+    text: &[u8],
+) -> Result<Option<Bytes>, NoMemory>
+    requires { length text.now ≤ size }
+    ensures { IfOk result (λ bytes. bytes ≡ until_end last.now (size - length text.now) (lines_of text.now)) }
 {
     let mut bytes = Vec::new(alloc);
     let mut rest = text;
     'lines: while let Some((line, behind)) = next_line(rest) {
-        if line == last {
+        if ends_block(last, line, size - behind.len()) {
             return Ok(Some(Bytes::of(bytes)));
         }
         bytes.extend_from_slice(line)?;
@@ -90,8 +106,10 @@ struct Begun {
     block: Option<Text>,
 }
 
-fn begin(alloc: Global, words: TextList, behind: &[u8]) -> Result<Begun, NoMemory>
-    ensures item { IfOk result (λ begun. begun.item ≡ item_on words (lines_of behind.now)) }
+// What these words begin in a file of so many bytes.
+fn begin(alloc: Global, words: TextList, size: usize, behind: &[u8]) -> Result<Begun, NoMemory>
+    requires { length behind.now ≤ size }
+    ensures item { IfOk result (λ begun. begun.item ≡ item_on words (size - length behind.now) (lines_of behind.now)) }
     ensures block { IfOk result (λ begun. begun.block ≡ option_map block_end (begun_by words)) }
 {
     match begun_by(&words) {
@@ -101,7 +119,7 @@ fn begin(alloc: Global, words: TextList, behind: &[u8]) -> Result<Begun, NoMemor
         }),
         Some(name) => {
             let end = block_end(alloc, name)?;
-            let bytes = until_end(alloc, end.as_slice(), behind)?;
+            let bytes = until_end(alloc, end.as_slice(), size, behind)?;
             let name = Text::copy(alloc, name)?;
             Ok(Begun {
                 item: Item::Block { name, bytes },
@@ -136,32 +154,34 @@ struct Reader {
 }
 
 impl Reader {
-    // Takes a line outside a block; what stands behind the line is lent as well, since a block that
-    // begins here is looked at to its end.
+    // Takes a line outside a block, of a file of so many bytes; what stands behind the line is lent as
+    // well, since a block that begins here is looked at to its end.
     fn take_outside(
         &mut self,
         alloc: Global,
         number: u32,
         line: &[u8],
-        passes: bool,
+        size: usize,
         behind: &[u8],
     ) -> Result<(), Or<ConfigFault>>
-        requires { self.old.block ≡ None }
+        requires outside { self.old.block ≡ None }
+        requires within { length behind.now ≤ size }
         ensures adds { OnOk result (Adds self.old.directives.items
-            (line_entries None (line_with number line.now passes) (lines_of behind.now)) self.new.directives.items) }
-        ensures block { OnOk result (self.new.block ≡ block_behind None (line_with number line.now passes)) }
-        ensures passes { OnOk result (passes ≡ false) }
+            (line_entries None (line_with number line.now (size - length behind.now)) (lines_of behind.now)) self.new.directives.items) }
+        ensures block { OnOk result (self.new.block ≡ block_behind None (line_with number line.now (size - length behind.now))) }
+        ensures short { OnOk result (is_over (size - length behind.now) ≡ false) }
         ensures stops { IfErr result (λ e. IfWhy e (Stops self.old.directives.items
-            (line_entries None (line_with number line.now passes) (lines_of behind.now)))) }
+            (line_entries None (line_with number line.now (size - length behind.now)) (lines_of behind.now)))) }
     {
-        let words = match read_config_line(alloc, number, line, passes) {
+        let over = size - behind.len() > LONGEST_FILE;
+        let words = match read_config_line(alloc, number, line, over) {
             Ok(words) => words,
             Err(e) => return Err(e),
         };
         if words.count() == 0 {
             return Ok(());
         }
-        let begun = begin(alloc, words, behind)?;
+        let begun = begin(alloc, words, size, behind)?;
         let Begun { item, block } = begun;
         if let Some(kind) = kind_of(&self.directives, &item) {
             let word = Text::copy(alloc, item.name())?;
@@ -178,10 +198,10 @@ impl Reader {
 }
 
 // What is wrong with a line within a block.
-fn judge_inside(line: &[u8], passes: bool) -> Option<ConfigKind>
-    ensures { result ≡ inside_kind line.now passes }
+fn judge_inside(line: &[u8], over: bool) -> Option<ConfigKind>
+    ensures { result ≡ inside_kind line.now over }
 {
-    if line.len() > LONGEST_LINE || passes {
+    if line.len() > LONGEST_LINE || over {
         Some(ConfigKind::Long)
     } else if has_control(line) {
         Some(ConfigKind::Control)
@@ -191,23 +211,23 @@ fn judge_inside(line: &[u8], passes: bool) -> Option<ConfigKind>
 }
 
 impl Reader {
-    // Takes a line within a block.
+    // Takes a line within a block, up to whose end the file has so many bytes.
     fn take_inside(
         &mut self,
         alloc: Global,
         number: u32,
         line: &[u8],
-        passes: bool,
+        reached: usize,
     ) -> Result<(), Or<ConfigFault>>
         requires { IsSome self.old.block }
         ensures adds { OnOk result ((lines : List Line) → Adds self.old.directives.items
-            (line_entries self.old.block (line_with number line.now passes) lines) self.new.directives.items) }
-        ensures block { OnOk result (self.new.block ≡ block_behind self.old.block (line_with number line.now passes)) }
-        ensures passes { OnOk result (passes ≡ false) }
+            (line_entries self.old.block (line_with number line.now reached) lines) self.new.directives.items) }
+        ensures block { OnOk result (self.new.block ≡ block_behind self.old.block (line_with number line.now reached)) }
+        ensures short { OnOk result (is_over reached ≡ false) }
         ensures stops { IfErr result (λ e. IfWhy e (λ fault. (lines : List Line) → Stops self.old.directives.items
-            (line_entries self.old.block (line_with number line.now passes) lines) fault)) }
+            (line_entries self.old.block (line_with number line.now reached) lines) fault)) }
     {
-        if let Some(kind) = judge_inside(line, passes) {
+        if let Some(kind) = judge_inside(line, reached > LONGEST_FILE) {
             return Err(Or::Why(line_fault(alloc, number, kind)));
         }
         self.leave_block(line);
@@ -228,26 +248,27 @@ impl Reader {
         }
     }
 
-    // Takes the next line.
+    // Takes the next line of a file of so many bytes.
     fn take(
         &mut self,
         alloc: Global,
         number: u32,
         line: &[u8],
-        passes: bool,
+        size: usize,
         behind: &[u8],
     ) -> Result<(), Or<ConfigFault>>
+        requires { length behind.now ≤ size }
         ensures adds { OnOk result (Adds self.old.directives.items
-            (line_entries self.old.block (line_with number line.now passes) (lines_of behind.now)) self.new.directives.items) }
-        ensures block { OnOk result (self.new.block ≡ block_behind self.old.block (line_with number line.now passes)) }
-        ensures passes { OnOk result (passes ≡ false) }
+            (line_entries self.old.block (line_with number line.now (size - length behind.now)) (lines_of behind.now)) self.new.directives.items) }
+        ensures block { OnOk result (self.new.block ≡ block_behind self.old.block (line_with number line.now (size - length behind.now))) }
+        ensures short { OnOk result (is_over (size - length behind.now) ≡ false) }
         ensures stops { IfErr result (λ e. IfWhy e (Stops self.old.directives.items
-            (line_entries self.old.block (line_with number line.now passes) (lines_of behind.now)))) }
+            (line_entries self.old.block (line_with number line.now (size - length behind.now)) (lines_of behind.now)))) }
     {
         if self.block.is_none() {
-            self.take_outside(alloc, number, line, passes, behind)
+            self.take_outside(alloc, number, line, size, behind)
         } else {
-            self.take_inside(alloc, number, line, passes)
+            self.take_inside(alloc, number, line, size - behind.len())
         }
     }
 }
@@ -267,8 +288,7 @@ pub fn read_directives(alloc: Global, text: &[u8]) -> Result<FileDirectives, Or<
     let mut rest = text;
     let mut number = 0;
     'lines: while let Some((line, behind)) = next_line(rest) {
-        let passes = text.len() - behind.len() > LONGEST_FILE;
-        match reader.take(alloc, number + 1, line, passes, behind) {
+        match reader.take(alloc, number + 1, line, text.len(), behind) {
             Ok(()) => {}
             Err(e) => return Err(e),
         }

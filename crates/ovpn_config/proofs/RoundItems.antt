@@ -47,11 +47,11 @@ pub record ReadsItem (number before : ℕ) (item : Item) (text rest : List ℕ) 
   pub fits : Fits (before + length text) rest
 
 -- words
-outside_words : (number : ℕ) (words : List (List ℕ)) (lines : List Line) → 0 < length words → begun_by words ≡ None
-    → outside_entries number (Ok words) lines ≡ Given (record { line = number; item = Words words }) ∷ []
-outside_words number [] lines some none = absurd (omega arith)
-outside_words number (name ∷ words) lines some none =
-    ap (λ (b : Option (List ℕ)). Given (record { line = number; item = item_begun b (name ∷ words) lines }) ∷ []) none
+outside_words : (number : ℕ) (words : List (List ℕ)) (reached : ℕ) (lines : List Line) → 0 < length words → begun_by words ≡ None
+    → outside_entries number (Ok words) reached lines ≡ Given (record { line = number; item = Words words }) ∷ []
+outside_words number [] reached lines some none = absurd (omega arith)
+outside_words number (name ∷ words) reached lines some none =
+    ap (λ (b : Option (List ℕ)). Given (record { line = number; item = item_begun b (name ∷ words) reached lines }) ∷ []) none
 
 read_words : Laws → (number before : ℕ) (words : List (List ℕ)) (rest : List ℕ) → CanRead (Words words)
     → Fits before (ended (words_text words) ++ rest) → ReadsItem number before (Words words) (ended (words_text words)) rest
@@ -66,7 +66,7 @@ read_words laws number before words rest can fits =
       reads = ap (λ (t : List ℕ). entries None number before (lines_of t)) (ended-behind line rest)
           ∙ outside_line number before line rest (Ok words) clean first (written_words laws (number + 1) line words read first.short)
           ∙ ap (λ (es : List Entry). es ++ entries (block_begun (Ok words)) (number + 1) (before + (length line + 1)) (lines_of rest))
-          (outside_words (number + 1) words (lines_of rest) can.2 can.1)
+          (outside_words (number + 1) words (before + (length line + 1)) (lines_of rest) can.2 can.1)
           ∙ ap (λ (b : Option (List ℕ)). Given (record { line = number + 1; item = Words words }) ∷ entries (option_map block_end b) (number + 1) (before + (length line + 1)) (lines_of rest))
           can.1
           ∙ ap (λ (n : ℕ). Given (record { line = number + 1; item = Words words }) ∷ entries None (number + 1) n (lines_of rest)) after;
@@ -88,7 +88,7 @@ pub record ReadsBlock (last : List ℕ) (number before : ℕ) (lines : List (Lis
   pub taken : ℕ
   pub size : taken ≡ before + (length (lines_with lines) + (length last + 1))
   pub reads : entries (Some last) number before (lines_of (block_rest lines last rest)) ≡ entries None next taken (lines_of rest)
-  pub until : until_end last (lines_of (block_rest lines last rest)) ≡ Some (lines_with lines)
+  pub until : until_end last before (lines_of (block_rest lines last rest)) ≡ Some (lines_with lines)
   pub fits : Fits taken rest
 
 not_true : (b : Bool) → not b ≡ true → b ≡ false
@@ -105,8 +105,8 @@ read_block last number before [] rest clean stand fits =
       taken = before + (length last + 1);
       size = omega arith;
       reads = inside_line last number before last rest None clean first same;
-      until = until_found last last (record { body = last; ended = true }) (lines_of (last ++ 10 ∷ rest)) (lines_of rest) (lines_of-line last rest clean)
-          (content-line last clean) (sym (same_bytes last));
+      until = until_found last last before (record { body = last; ended = true }) (lines_of (last ++ 10 ∷ rest)) (lines_of rest) (lines_of-line last rest clean)
+          (content-line last clean) (sym (ap (λ (o : Bool). o || bytes_eq last last) first.within ∙ same_bytes last));
       fits = first.behind;
     }
 read_block last number before (line ∷ lines) rest clean stand fits =
@@ -123,9 +123,9 @@ read_block last number before (line ∷ lines) rest clean stand fits =
       size = omega (arith, more.size, length-append (ended line) (lines_with lines), length-ended line);
       reads = ap (λ (t : List ℕ). entries (Some last) number before (lines_of t)) (block_rest-cons line lines last rest)
           ∙ inside_line last number before line later (Some last) here.0 first stays ∙ more.reads;
-      until = ap (λ (t : List ℕ). until_end last (lines_of t)) (block_rest-cons line lines last rest)
-          ∙ until_passed last line (record { body = line; ended = true }) (lines_of (line ++ 10 ∷ later)) (lines_of later) (lines_of-line line later here.0)
-          (content-line line here.0) (sym other)
+      until = ap (λ (t : List ℕ). until_end last before (lines_of t)) (block_rest-cons line lines last rest)
+          ∙ until_passed last line before (record { body = line; ended = true }) (lines_of (line ++ 10 ∷ later)) (lines_of later) (lines_of-line line later here.0)
+          (content-line line here.0) (sym (ap (λ (o : Bool). o || bytes_eq line last) first.within ∙ other))
           ∙ ap (option_map (λ (m : List ℕ). line ++ 10 ∷ m)) more.until
           ∙ ap (λ (m : List ℕ). Some m) (sym (ended-behind line (lines_with lines)));
       fits = more.fits;
@@ -188,10 +188,11 @@ length-block name lines =
     ∙ length-append (block_begin name) (10 ∷ block_rest lines (block_end name) [])
     ∙ omega (arith, length-append (lines_with lines) (block_end name ++ 10 ∷ []), length-append (block_end name) (10 ∷ []))
 
-outside_block : (number : ℕ) (name bytes : List ℕ) (lines : List Line) → block_name (block_begin name) ≡ Some name → until_end (block_end name) lines ≡ Some bytes
-    → outside_entries number (Ok (block_begin name ∷ [])) lines ≡ Given (record { line = number; item = Block name (Some bytes) }) ∷ []
-outside_block number name bytes lines named until =
-    ap (λ (b : Option (List ℕ)). Given (record { line = number; item = item_begun b (block_begin name ∷ []) lines }) ∷ []) named
+outside_block : (number : ℕ) (name bytes : List ℕ) (reached : ℕ) (lines : List Line) → block_name (block_begin name) ≡ Some name
+    → until_end (block_end name) reached lines ≡ Some bytes
+    → outside_entries number (Ok (block_begin name ∷ [])) reached lines ≡ Given (record { line = number; item = Block name (Some bytes) }) ∷ []
+outside_block number name bytes reached lines named until =
+    ap (λ (b : Option (List ℕ)). Given (record { line = number; item = item_begun b (block_begin name ∷ []) reached lines }) ∷ []) named
     ∙ ap (λ (b : Option (List ℕ)). Given (record { line = number; item = Block name b }) ∷ []) until
 
 read_whole_block : Laws → (number before : ℕ) (name : List ℕ) (lines : List (List ℕ)) (rest : List ℕ) → is_among block_names name ≡ true
@@ -211,7 +212,7 @@ read_whole_block laws number before name lines rest among stand fits =
       reads = ap (λ (t : List ℕ). entries None number before (lines_of t)) (block_text-rest name lines rest)
           ∙ outside_line number before line later (Ok (line ∷ [])) b.clean_begin first (written_words laws (number + 1) line (line ∷ []) b.words first.short)
           ∙ ap (λ (es : List Entry). es ++ entries (option_map block_end (block_name line)) (number + 1) (before + (length line + 1)) (lines_of later))
-          (outside_block (number + 1) name bytes (lines_of later) b.named block.until)
+          (outside_block (number + 1) name bytes (before + (length line + 1)) (lines_of later) b.named block.until)
           ∙ ap (λ (n : Option (List ℕ)). Given (record { line = number + 1; item = Block name (Some bytes) }) ∷ entries (option_map block_end n) (number + 1) (before + (length line + 1)) (lines_of later)) b.named
           ∙ ap (λ (es : List Entry). Given (record { line = number + 1; item = Block name (Some bytes) }) ∷ es) block.reads
           ∙ ap (λ (n : ℕ). Given (record { line = number + 1; item = Block name (Some bytes) }) ∷ entries None block.next n (lines_of rest)) taken;

@@ -71,13 +71,14 @@ first_fits before line rest clean fits =
 pub outside_line : (number before : ℕ) (line rest : List ℕ) (read : Result (List (List ℕ)) ConfigFault) → is_clean line ≡ true
     → FirstFits before line rest → config_words (number + 1) line false ≡ read
     → entries None number before (lines_of (line ++ 10 ∷ rest))
-    ≡ outside_entries (number + 1) read (lines_of rest) ++ entries (block_begun read) (number + 1) (before + (length line + 1)) (lines_of rest)
+    ≡ outside_entries (number + 1) read (before + (length line + 1)) (lines_of rest) ++ entries (block_begun read) (number + 1) (before + (length line + 1)) (lines_of rest)
 outside_line number before line rest read clean fits is =
     let L : Line = record { body = line; ended = true } in
     entries-first None number before (lines_of (line ++ 10 ∷ rest)) (lines_of rest) L (lines_of-line line rest clean)
     ∙ ap (λ (l : FileLine). line_entries None l (lines_of rest) ++ entries (block_behind None l) (number + 1) (before + (length line + 1)) (lines_of rest))
-    (seen number before L line false (content-line line clean) fits.within)
-    ∙ ap (λ (r : Result (List (List ℕ)) ConfigFault). outside_entries (number + 1) r (lines_of rest) ++ entries (block_begun r) (number + 1) (before + (length line + 1)) (lines_of rest)) is
+    (seen number before L line (before + (length line + 1)) (content-line line clean) refl)
+    ∙ ap (λ (o : Bool). outside_entries (number + 1) (config_words (number + 1) line o) (before + (length line + 1)) (lines_of rest) ++ entries (block_begun (config_words (number + 1) line o)) (number + 1) (before + (length line + 1)) (lines_of rest)) fits.within
+    ∙ ap (λ (r : Result (List (List ℕ)) ConfigFault). outside_entries (number + 1) r (before + (length line + 1)) (lines_of rest) ++ entries (block_begun r) (number + 1) (before + (length line + 1)) (lines_of rest)) is
 
 -- a line within a block
 pub inside_line : (last : List ℕ) (number before : ℕ) (line rest : List ℕ) (around : Option (List ℕ)) → is_clean line ≡ true
@@ -87,7 +88,9 @@ inside_line last number before line rest around clean fits is =
     let L : Line = record { body = line; ended = true } in
     entries-first (Some last) number before (lines_of (line ++ 10 ∷ rest)) (lines_of rest) L (lines_of-line line rest clean)
     ∙ ap (λ (l : FileLine). line_entries (Some last) l (lines_of rest) ++ entries (block_behind (Some last) l) (number + 1) (before + (length line + 1)) (lines_of rest))
-    (seen number before L line false (content-line line clean) fits.within)
+    (seen number before L line (before + (length line + 1)) (content-line line clean) refl)
+    ∙ ap (λ (o : Bool). inside_entries (number + 1) (cond (nat_lt 1024 (length line) || o) (Some Long) (cond (has_control line) (Some Control) None)) ++ entries (cond (bytes_eq line last) None (Some last)) (number + 1) (before + (length line + 1)) (lines_of rest))
+    fits.within
     ∙ ap (λ (b : Bool). inside_entries (number + 1) (cond (b || false) (Some Long) (cond (has_control line) (Some Control) None)) ++ entries (cond (bytes_eq line last) None (Some last)) (number + 1) (before + (length line + 1)) (lines_of rest))
     (le-ltb 1024 (length line) fits.short)
     ∙ ap (λ (b : Bool). inside_entries (number + 1) (cond b (Some Control) None) ++ entries (cond (bytes_eq line last) None (Some last)) (number + 1) (before + (length line + 1)) (lines_of rest))

@@ -15,7 +15,7 @@ use Rattle.config_directives.specs.declared.item.Directive.{Directive}
 use Rattle.config_directives.specs.Items.{items_of, name_of}
 use Rattle.config_directives.specs.Blocks.{block_end}
 use Rattle.config_directives.specs.Names.{is_refused}
-use Rattle.config_directives.specs.Entries.{Entry, begun_by, block_begun, block_behind, entries, has_control, inside_entries, inside_kind, item_begun, line_behind, outside_entries, until_end, words_on}
+use Rattle.config_directives.specs.Entries.{Entry, begun_by, block_begun, block_behind, entries, has_control, inside_entries, inside_kind, is_over, item_begun, line_behind, outside_entries, until_end, words_on}
 use Rattle.config_directives.specs.Judging.{is_known, is_open, is_repeated, is_taken, judged, kind_of, unless_wrong}
 use Rattle.ovpn_config.specs.Canonical.{lines_with}
 use Rattle.ovpn_config.proofs.CleanText.{Laws, both_true, clean-any, is_clean}
@@ -81,6 +81,15 @@ inside_clean : (bytes : List ℕ) (passes : Bool) → inside_kind bytes passes �
 inside_clean bytes passes none =
     clean-any bytes ∙ ap not (inside_by (nat_lt 1024 (length bytes) || passes) (has_control bytes) none)
 
+-- and the file is not too long with them
+over_by : (long over control : Bool) → cond (long || over) (Some kinds.Long) (cond control (Some kinds.Control) None) ≡ None → over ≡ false
+over_by true over control none = cc
+over_by false true control none = cc
+over_by false false control none = refl
+
+inside_short : (bytes : List ℕ) (over : Bool) → inside_kind bytes over ≡ None → over ≡ false
+inside_short bytes over none = over_by (nat_lt 1024 (length bytes)) over (has_control bytes) none
+
 inside_ok : (ds all : List Directive) (number : ℕ) (kind : Option ConfigKind) (later : List Entry) → judged ds (inside_entries number kind ++ later) ≡ Ok all
     → (kind ≡ None) × (judged ds later ≡ Ok all)
 unfolding judged
@@ -104,17 +113,19 @@ lined_when false last line bytes (Some m) clean is more until =
     )
 
 block_lines : (last : List ℕ) (lines : List Line) (number before : ℕ) (ds all : List Directive) (bytes : List ℕ)
-    → judged ds (entries (Some last) number before lines) ≡ Ok all → until_end last lines ≡ Some bytes
+    → judged ds (entries (Some last) number before lines) ≡ Ok all → until_end last before lines ≡ Some bytes
     → (ls : List (List ℕ)) × (bytes ≡ lines_with ls) × (list_all (may_stand last) ls ≡ true)
 unfolding entries until_end
 block_lines last [] number before ds all bytes ok until = cc
 block_lines last (line ∷ lines) number before ds all bytes ok until =
     let l = line_behind number before line in
-    let here = inside_ok ds all l.number (inside_kind l.bytes l.passes) (entries (block_behind (Some last) l) (number + 1) (before + size line) lines) ok in
-    lined_when (bytes_eq (content line) last) last (content line) bytes (until_end last lines) (inside_clean l.bytes l.passes here.0) refl
+    let here = inside_ok ds all l.number (inside_kind l.bytes (is_over l.reached)) (entries (block_behind (Some last) l) (number + 1) (before + size line) lines) ok in
+    let reached = before + size line in
+    lined_when (bytes_eq (content line) last) last (content line) bytes (until_end last reached lines) (inside_clean l.bytes (is_over l.reached) here.0) refl
     (λ more other is. block_lines last lines (number + 1) (before + size line) ds all more
     (subst (λ (b : Bool). judged ds (entries (cond b None (Some last)) (number + 1) (before + size line) lines) ≡ Ok all) other here.1) is)
-    until
+    (subst (λ (o : Bool). cond (o || bytes_eq (content line) last) (Some []) (option_map (λ (more : List ℕ). content line ++ 10 ∷ more) (until_end last reached lines)) ≡ Some bytes)
+    (inside_short l.bytes (is_over l.reached) here.0) until)
 
 -- a directive that is added
 given_ok : (ds all : List Directive) (d : Directive) (kind : Option ConfigKind) (later : Result (List Directive) ConfigFault) → unless_wrong d kind later ≡ Ok all
@@ -127,14 +138,14 @@ open_by None closed = cc
 open_by (Some b) closed = (b, refl)
 
 sound_item : Laws → (begun : Option (List ℕ)) (number before : ℕ) (line : List ℕ) (words : List (List ℕ)) (lines : List Line) (ds all : List Directive)
-    → begun_by words ≡ begun → 0 < length words → line_words line ≡ Ok words → HasNothing (item_begun begun words lines)
-    → judged ds (entries (option_map block_end begun) number before lines) ≡ Ok all → IsSound (item_begun begun words lines)
+    → begun_by words ≡ begun → 0 < length words → line_words line ≡ Ok words → HasNothing (item_begun begun words before lines)
+    → judged ds (entries (option_map block_end begun) number before lines) ≡ Ok all → IsSound (item_begun begun words before lines)
 sound_item laws None number before line words lines ds all is some read nothing later = record {
   can = (laws.clean_words line words read, is, some);
   taken = nothing.taken;
 }
 sound_item laws (Some name) number before line words lines ds all is some read nothing later =
-    let bytes = open_by (until_end (block_end name) lines) nothing.closed in
+    let bytes = open_by (until_end (block_end name) before lines) nothing.closed in
     let lined = block_lines (block_end name) lines number before ds all bytes.0 later bytes.1 in
     record {
       can = subst (λ (b : Option (List ℕ)). CanRead (Block name b)) (sym bytes.1) (nothing.known, lined);
@@ -144,12 +155,12 @@ sound_item laws (Some name) number before line words lines ds all is some read n
 sound_line : Laws → (read : Result (List (List ℕ)) ConfigFault) (number before : ℕ) (line : List ℕ) (lines : List Line) (ds all : List Directive) (at : ℕ)
     → ((words : List (List ℕ)) → read ≡ Ok words → line_words line ≡ Ok words)
     → ((after : List Directive) → AllSound (items_of after) → judged after (entries (block_begun read) number before lines) ≡ Ok all → AllSound (items_of all))
-    → AllSound (items_of ds) → judged ds (outside_entries at read lines ++ entries (block_begun read) number before lines) ≡ Ok all → AllSound (items_of all)
+    → AllSound (items_of ds) → judged ds (outside_entries at read before lines ++ entries (block_begun read) number before lines) ≡ Ok all → AllSound (items_of all)
 unfolding judged
 sound_line laws (Err fault) number before line lines ds all at words later sound ok = cc
 sound_line laws (Ok []) number before line lines ds all at words later sound ok = later ds sound ok
 sound_line laws (Ok (name ∷ args)) number before line lines ds all at words later sound ok =
-    let item = item_begun (begun_by (name ∷ args)) (name ∷ args) lines in
+    let item = item_begun (begun_by (name ∷ args)) (name ∷ args) before lines in
     let d : Directive = record { line = at; item = item } in
     let behind = judged (ds ++ d ∷ []) (entries (option_map block_end (begun_by (name ∷ args))) number before lines) in
     let here = given_ok ds all d (kind_of ds item) behind ok in
@@ -164,10 +175,10 @@ sound_all laws [] block number before ds all sound ok = let same : ds ≡ all = 
 sound_all laws (line ∷ lines) None number before ds all sound ok =
     let l = line_behind number before line in
     sound_line laws (words_on l) (number + 1) (before + size line) (content line) lines ds all l.number
-    (λ words is. words_of_line l.number l.bytes l.passes words is)
+    (λ words is. words_of_line l.number l.bytes (is_over l.reached) words is)
     (λ after good more. sound_all laws lines (block_begun (words_on l)) (number + 1) (before + size line) after all good more)
     sound ok
 sound_all laws (line ∷ lines) (Some last) number before ds all sound ok =
     let l = line_behind number before line in
-    let here = inside_ok ds all l.number (inside_kind l.bytes l.passes) (entries (block_behind (Some last) l) (number + 1) (before + size line) lines) ok in
+    let here = inside_ok ds all l.number (inside_kind l.bytes (is_over l.reached)) (entries (block_behind (Some last) l) (number + 1) (before + size line) lines) ok in
     sound_all laws lines (block_behind (Some last) l) (number + 1) (before + size line) ds all sound here.1

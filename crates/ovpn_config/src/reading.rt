@@ -154,9 +154,10 @@ fn read_settings(alloc: Global, text: &[u8]) -> Result<Settings, Or<ConfigFault>
 /// Lines end by LF or CR LF, and the last needs no end. The fault is the first line with one of
 /// the kinds `Long` (over 1,024 bytes without its end, or the file passes 65,536 bytes in it),
 /// `Control`, `Quote`, `Escape`, `Unknown`, `Refused`, `Arguments`, `Repeated` and `Block`, which
-/// are judged in this order within a line; in a block only the first two are. Where there is none
-/// it is the first line on the wrong side (`Side`; the first `server` or `client` decides it), and
-/// else the first directive that is missing (`Missing`, with the number of the last line).
+/// are judged in this order within a line; in a block only the first two are, and a block that is
+/// open where the file passes 65,536 bytes is no `Block`. Where there is none it is the first line
+/// on the wrong side (`Side`; the first `server` or `client` decides it), and else the first
+/// directive that is missing (`Missing`, with the number of the last line).
 pub fn read_config(alloc: Global, text: &[u8]) -> Result<Settings, Or<ConfigFault>>
     ensures exact { Answers result (settings text.now) }
 

@@ -495,5 +495,17 @@ fn limits(rt: HostRuntime) -> Result<(), Fail> {
     assert!(rt; is_accepted(rt.alloc(), SERVER, &lines));
     lines.push(b'\n')?;
     assert!(rt; is_refused(rt.alloc(), SERVER, &lines, 65_470, ConfigKind::Long, b""));
+
+    // A block that nothing ends, in a file of that size and in one of a byte more, with and without
+    // an end behind it.
+    let lines = vec![in rt.alloc(); b'\n'; 65_460]?;
+    let mut block = Vec::new(rt.alloc());
+    block.extend_from_slice(b"<ca>\n")?;
+    block.extend_from_slice(&lines)?;
+    assert!(rt; is_refused(rt.alloc(), SERVER, &block, 5, ConfigKind::Block, b"ca"));
+    block.push(b'\n')?;
+    assert!(rt; is_refused(rt.alloc(), SERVER, &block, 65_466, ConfigKind::Long, b""));
+    block.extend_from_slice(b"</ca>\n")?;
+    assert!(rt; is_refused(rt.alloc(), SERVER, &block, 65_466, ConfigKind::Long, b""));
     Ok(())
 }

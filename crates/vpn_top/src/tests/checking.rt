@@ -147,6 +147,10 @@ fn long_files_and_full_outputs(rt: HostRuntime) -> Result<(), Fail> {
     let answer = check_files(alloc, &long, KEY, &[], 4096)?;
     assert_eq!(rt; answer.status, 2);
     assert_eq!(rt; answer.err.held(), b"line 66: long\n".as_slice());
+    let block = joined(alloc, &[b"<ca>\n", &long, b"</ca>\n"])?;
+    let answer = check_files(alloc, &block, KEY, &[], 4096)?;
+    assert_eq!(rt; answer.status, 2);
+    assert_eq!(rt; answer.err.held(), b"line 67: long\n".as_slice());
     let answer = check_files(alloc, SERVER, KEY, &[], 10)?;
     assert_eq!(rt; answer.status, 6);
     assert_eq!(rt; answer.out.held(), b"server 10.".as_slice());

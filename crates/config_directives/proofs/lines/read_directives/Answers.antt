@@ -1,5 +1,5 @@
 use Rattle.std.proofs.Common.{◌≡◌, ◌+◌, ◌-◌, ap, sym, ◌∙◌, refl, List, [], ℕ, length, arith}
-use Rattle.std.specs.Prelude.{None, nat_lt}
+use Rattle.std.specs.Prelude.{None}
 use Rattle.std.proofs.lemmas.Bool.{ltb-false}
 use Rattle.vpn_base.specs.Lines.{Line, lines_of, size}
 use Rattle.config_directives.specs.declared.item.Directive.{Directive}
@@ -28,8 +28,8 @@ returns-in-Err-clause-why c =
     let text = c.args.text.now in
     let taken : length text - length l.rest.now + size first.first ≡ length text - length c.in-Some.behind.now = omega (arith, first.takes, l.invariant.within) in
     next_stops l.reader.directives.items c.in-Err.e l.reader.block l.number (length text - length l.rest.now) (lines_of l.rest.now) (lines_of c.in-Some.behind.now)
-    first.first c.in-Some.line.now (nat_lt 65536 (length text - length c.in-Some.behind.now)) _ l.invariant.judges first.begins first.shows
-    (ap (nat_lt 65536) taken) c.in-Err.ensures.stops
+    first.first c.in-Some.line.now (length text - length c.in-Some.behind.now) _ l.invariant.judges first.begins first.shows
+    taken c.in-Err.ensures.stops
 
 pub lines-preserved : goal.lines-preserved
 lines-preserved c =
@@ -43,12 +43,11 @@ lines-preserved c =
       judges = l.invariant.judges
           ∙ next_adds l.reader.directives.items c.take.new.self.directives.items l.reader.block c.take.new.self.block l.number (length text - length l.rest.now)
           (length text - length behind) (lines_of l.rest.now) (lines_of behind) first.first c.in-Some.line.now
-          (nat_lt 65536 (length text - length behind)) first.begins first.shows (ap (nat_lt 65536) taken)
-          c.in-Ok.ensures.adds c.in-Ok.ensures.block taken;
+          first.begins first.shows taken c.in-Ok.ensures.adds c.in-Ok.ensures.block;
       counts = omega (arith, l.invariant.counts);
       within = omega (arith, l.invariant.within, c.in-Some.ensures.shorter);
       few = omega (arith, l.invariant.few, c.in-Some.ensures.shorter);
-      small = omega (arith, ltb-false 65536 (length text - length behind) c.in-Ok.ensures.passes);
+      small = omega (arith, ltb-false 65536 (length text - length behind) c.in-Ok.ensures.short);
     }
 
 pub returns-clause-ok : goal.returns-clause-ok

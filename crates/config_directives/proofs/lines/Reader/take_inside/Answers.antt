@@ -8,6 +8,6 @@ use Rattle.config_directives.proofs.lines.Reader.take_inside.Goals as goal
 pub returns-in-Some-clause-stops : goal.returns-in-Some-clause-stops
 returns-in-Some-clause-stops c = λ lines.
     let self = c.args.self.now in
-    let P : ConfigFault → Type 0 = λ fault. Stops self.directives.items (line_entries self.block (line_with c.args.number c.args.line.now c.args.passes) lines) fault in
+    let P : ConfigFault → Type 0 = λ fault. Stops self.directives.items (line_entries self.block (line_with c.args.number c.args.line.now c.args.reached) lines) fault in
     subst P (sym c.line_fault.ensures)
-    (stops_within self.directives.items self.block c.args.number c.args.line.now c.args.passes c.in-Some.kind lines c.requires c.in-Some.ensures)
+    (stops_within self.directives.items self.block c.args.number c.args.line.now c.args.reached c.in-Some.kind lines c.requires c.in-Some.ensures)
