@@ -51,6 +51,8 @@ fn every_opcode_is_served_or_refused(rt: HostRuntime) {
             );
         }
     }
+    assert_eq!(rt; first_byte(Opcode::SoftReset, 1), 0x19);
+    assert_eq!(rt; first_byte(Opcode::DataV2, 7), 0x4F);
     assert_eq!(rt; read_packet(&[]), Err(Malformed::Empty));
     assert_eq!(rt; read_packet(&CLIENT_RESET[..48]), Err(Malformed::Short));
     assert_eq!(rt; read_packet(&[0x48]), Err(Malformed::Short));
@@ -81,6 +83,17 @@ fn data_packets(rt: HostRuntime) {
         );
     }
     assert_eq!(rt; read_packet(&packet[..23]), Err(Malformed::Short));
+    let mut empty = [0; 24];
+    empty[0] = 0x48;
+    let view = DataView {
+        kid: 0,
+        peer: 0,
+        id: 0,
+        tag: [0; 16],
+        sealed: &[],
+    };
+    assert_eq!(rt; read_packet(&empty), Ok(Packet::Inner(view)));
+    assert_eq!(rt; read_packet(&empty[..23]), Err(Malformed::Short));
     assert_eq!(rt;
         write_data_head(5, 0x010203, 0x04050607),
         [0x4D, 1, 2, 3, 4, 5, 6, 7]
