@@ -49,7 +49,7 @@ pub trait Wrap {
         ensures written { take result out.new ≡ wrapped self.now first sid.0 id time plain.now }
         ensures rest { drop result out.new ≡ drop result out.old };
 
-    /// Unwraps a datagram in place: the plain text then stands behind its first 49 bytes.
+    /// Unwraps a datagram in place: the plain text then stands behind its first 49 bytes, which stay.
     ///
     /// `Short` comes exactly below 49 bytes, and `NotWrapped` exactly where no packet wraps to the
     /// datagram at the other end. The datagram is unchanged then.
@@ -59,6 +59,7 @@ pub trait Wrap {
         ensures refused { IsErrOf result Unwrap.NotWrapped → IsWrappedByNone (unwrapped self.now) datagram.old }
         ensures short { IsErrOf result Unwrap.Short ↔ (length datagram.old < 49) }
         ensures long { OnOk result (49 ≤ length datagram.old) }
+        ensures front { OnOk result (take 49 datagram.new ≡ take 49 datagram.old) }
         ensures unchanged { OnErr result (datagram.new ≡ datagram.old) };
 
     /// Unwraps a datagram in place, and answers the packet, whose plain text stays in the datagram.

@@ -4,7 +4,7 @@ use Rattle.std.proofs.lemmas.Slice.Eq.{bytes_eq-Decides}
 use Rattle.tls_crypt.specs.Wrapped.{datagram, header, tag, wrapped}
 use Rattle.tls_crypt.specs.Packets.{Directions}
 use Rattle.tls_crypt.specs.Laws.{length-header}
-use Rattle.tls_crypt.proofs.Datagrams.{is_wrapped, not_false, restored, right_tag}
+use Rattle.tls_crypt.proofs.Datagrams.{front_kept, is_wrapped, not_false, restored, right_tag}
 use Rattle.tls_crypt.proofs.wrapper.WrapperWrap.unwrap_in_place.Goals as goal
 
 pub returns-then-ne-clause-refused : goal.returns-then-ne-clause-refused
@@ -38,3 +38,8 @@ returns-clause-opened c =
     is_wrapped keys mac before after long c.array_at-tag.ensures c.encipher.ensures right
     ∙ ap (λ (f : List ℕ). datagram keys f (drop 49 after)) (sym c.header_at.ensures)
     ∙ ap (λ (d : Directions). wrapped d.reads h.first h.sid.0 h.id h.time (drop 49 after)) c.self.view_is
+
+pub returns-clause-front : goal.returns-clause-front
+returns-clause-front c =
+    let long : 49 ≤ length c.args.datagram.now = omega arith in
+    front_kept c.self.inside.reads c.array_at-tag.result c.args.datagram.now c.encipher.new.datagram long c.encipher.ensures
