@@ -1,5 +1,5 @@
 -- What a step of a core does to the outside, without where its bytes lie in memory.
-use Rattle.std.specs.Prelude.{◌≡◌, ℕ, List, [], length, Option}
+use Rattle.std.specs.Prelude.{◌≡◌, ℕ, ◌+◌, List, [], ◌∷◌, length, Option}
 use Rattle.vpn_base.specs.declared.names.Cid.{Cid}
 use Rattle.vpn_base.specs.declared.names.Conn.{Conn}
 use Rattle.vpn_base.specs.declared.names.Role.{Role}
@@ -57,10 +57,20 @@ carried_bytes _ = []
 abbrev pub carried : Action → ℕ
 carried a = length (carried_bytes a)
 
+-- how many bytes all of these carry
+abbrev pub carried_by : List Action → ℕ
+carried_by [] = 0
+carried_by (a ∷ actions) = carried a + carried_by actions
+
 -- a control datagram that waits behind all effects, and where it goes
 pub record Datagram : Type 0 where
   pub to : Addr
   pub bytes : List ℕ
+
+-- how many bytes all of these have
+abbrev pub staged_bytes : List Datagram → ℕ
+staged_bytes [] = 0
+staged_bytes (d ∷ datagrams) = length d.bytes + staged_bytes datagrams
 
 -- a control datagram as an effect
 abbrev pub on_wire : Datagram → Action

@@ -1,5 +1,5 @@
 -- How an outbox keeps its effects: their bytes lie one behind the other in one store.
-use Rattle.std.specs.Prelude.{◌≡◌, ℕ, ◌+◌, ◌≤◌, min, List, length, take, drop}
+use Rattle.std.specs.Prelude.{ℕ, ◌+◌, ◌≤◌, min, List, [], ◌∷◌, length, take, drop}
 use Rattle.std.specs.List.{AllByRecursion}
 use Rattle.vpn_links.specs.declared.store.Span.{Span}
 use Rattle.vpn_links.specs.declared.store.Kept.{Kept}
@@ -51,10 +51,31 @@ IsStagedWithin size s = IsWithin size s.span
 abbrev pub kept_datagram : Staged → Kept
 kept_datagram s = kept.Wire s.to s.span
 
--- what holds of every outbox: all places lie within the store, and there is room for the staged datagrams behind the effects
+-- how many bytes of the store are of this effect
+abbrev pub own : Kept → ℕ
+own (kept.Wire to span) = span.len
+own (kept.EnginePut conn span) = span.len
+own (kept.EngineWrite conn span) = span.len
+own (kept.Device span) = span.len
+own (kept.Ask cid span) = span.len
+own (kept.Say span) = span.len
+own _ = 0
+
+-- how many are of these effects
+abbrev pub own_all : List Kept → ℕ
+own_all [] = 0
+own_all (k ∷ kept) = own k + own_all kept
+
+-- how many are of these datagrams
+abbrev pub own_staged : List Staged → ℕ
+own_staged [] = 0
+own_staged (s ∷ staged) = s.span.len + own_staged staged
+
+-- what holds of every outbox: all places lie within the store and have bytes of their own, and there is room for the staged datagrams behind the effects
 pub record IsSound (effects : List Kept) (staged : List Staged) (size effects_room staged_room bytes_room : ℕ) : Type 0 where
   pub effects_within : AllByRecursion (IsKeptWithin size) effects
   pub staged_within : AllByRecursion (IsStagedWithin size) staged
+  pub apart : own_all effects + own_staged staged ≤ size
   pub room : length effects + length staged ≤ min effects_room staged_room
   pub least_effects : 4 ≤ min effects_room staged_room
   pub least_bytes : 4096 ≤ bytes_room

@@ -3,8 +3,8 @@
 ghost use Rattle.std.specs.Prelude.{◌≡◌, ◌+◌, ◌-◌, ◌<◌, ◌≤◌, [], ◌∷◌, ◌++◌, length, take, map, min, vec_len, vec_capacity, IfOk, IsOk, OnOk, OnErr, slice_get};
 ghost use Rattle.std.specs.Option.{option_map};
 ghost use Rattle.std.specs.List.{AllByRecursion};
-ghost use Rattle.vpn_links.specs.Actions.{Configure, Holds, IsPlain, action, carried, carried_bytes, on_wire};
-ghost use Rattle.vpn_links.specs.Store.{IsKeptWithin, IsWithin, kept_action, kept_datagram, part};
+ghost use Rattle.vpn_links.specs.Actions.{Configure, Holds, IsPlain, action, carried, carried_by, carried_bytes, on_wire, staged_bytes};
+ghost use Rattle.vpn_links.specs.Store.{IsKeptWithin, IsWithin, kept_action, kept_datagram, own, part};
 
 use crate::effects::Effect;
 use crate::store::{Kept, Span, Staged};
@@ -49,6 +49,7 @@ impl Model for Outbox {
 fn put(store: &mut Vec<u8>, bytes: &[u8]) -> Result<Span, NoMemory>
     ensures part { IfOk result (λ s. part store.new.items s ≡ bytes.now) }
     ensures within { IfOk result (IsWithin (length store.new.items)) }
+    ensures len { IfOk result (λ s. s.len ≡ length bytes.now) }
     ensures ok { OnOk result (store.new.items ≡ store.old.items ++ bytes.now) }
     ensures err { OnErr result (store.new.items ≡ store.old.items) }
     ensures capacity { vec_capacity store.old ≤ vec_capacity store.new }
@@ -74,6 +75,7 @@ fn keep(store: &mut Vec<u8>, e: &Effect<'_>) -> Result<Kept, NoMemory>
     requires { IsPlain e.now }
     ensures kept { IfOk result (λ k. kept_action store.new.items k ≡ action e.now) }
     ensures within { IfOk result (IsKeptWithin (length store.new.items)) }
+    ensures own { IfOk result (λ k. own k ≡ carried (action e.now)) }
     ensures ok { OnOk result (store.new.items ≡ store.old.items ++ carried_bytes (action e.now)) }
     ensures err { OnErr result (store.new.items ≡ store.old.items) }
     ensures capacity { vec_capacity store.old ≤ vec_capacity store.new }
@@ -223,7 +225,7 @@ impl Outbox {
     pub fn clear(&mut self)
         ensures empty { Holds self.new [] [] }
         ensures effects { self.new.spare_effects ≡ self.old.spare_effects + length self.old.effects + length self.old.staged }
-        ensures bytes { self.old.spare_bytes ≤ self.new.spare_bytes }
+        ensures bytes { self.old.spare_bytes + carried_by self.old.effects + staged_bytes self.old.staged ≤ self.new.spare_bytes }
         ensures least { (4 ≤ self.new.spare_effects) × (4096 ≤ self.new.spare_bytes) }
     {
         self.effects.clear();
@@ -303,7 +305,7 @@ impl Outbox {
     }
 
     /// Keeps the first so many effects and the first so many staged datagrams.
-    #[tactic(auto, using(crate::proofs::Parts::take_map, crate::proofs::Parts::all_take))]
+    #[tactic(auto, using(crate::proofs::Parts::take_map, crate::proofs::Parts::all_take, crate::proofs::Parts::own_take, crate::proofs::Parts::own_staged_take))]
     pub fn cut(&mut self, effects: usize, staged: usize)
         requires effects { effects ≤ length self.old.effects }
         requires staged { staged ≤ length self.old.staged }

@@ -2,7 +2,7 @@
 
 use super::*;
 use std::test::Fail;
-use vpn_base::{Addr, Cid, Conn, Ip4, Role, RouteList, Text, TextList};
+use vpn_base::{Addr, Cid, Conn, Ip4, Prefix, Role, RouteList, Text, TextList};
 
 const PEER: Addr = Addr {
     ip: Ip4(0xC000_0207),
@@ -49,5 +49,93 @@ fn datagrams_stand_behind_the_effects(rt: HostRuntime) -> Result<(), Fail> {
     assert!(rt; outbox.effect(4).is_none());
     outbox.clear();
     assert_eq!(rt; outbox.count(), 0);
+    Ok(())
+}
+
+#[test]
+fn each_effect_is_lent_as_it_was_added(rt: HostRuntime) -> Result<(), Fail> {
+    let alloc = rt.alloc();
+    let conn = Conn(7);
+    let mut outbox = Outbox::make(alloc)?;
+    outbox.add(&Effect::Stop)?;
+    outbox.add(&Effect::Wire {
+        to: PEER,
+        bytes: b"wire",
+    })?;
+    outbox.add(&Effect::EnginePut {
+        conn,
+        bytes: b"put",
+    })?;
+    outbox.add(&Effect::EngineWrite { conn, bytes: b"" })?;
+    outbox.add(&Effect::EngineClose { conn })?;
+    outbox.add(&Effect::Device { bytes: b"device" })?;
+    outbox.add(&Effect::Ask {
+        cid: Cid(3),
+        name: b"alice",
+    })?;
+    let mut routes = RouteList::new(alloc);
+    if let Some(route) = Prefix::new(Ip4(0x0A09_0000), 16) {
+        routes.add(route)?;
+    }
+    let mut rest = TextList::new(alloc);
+    rest.add(Text::copy(alloc, b"dhcp-option DNS 10.8.0.1")?)?;
+    outbox.reserve(1, 0)?;
+    outbox.add_configure(Ip4(0x0A08_0002), 24, None, routes, rest);
+    assert_eq!(rt; outbox.count(), 8);
+    assert!(rt; matches!(outbox.effect(0), Some(Effect::Stop)));
+    assert!(rt; is_wire(&outbox, 1, b"wire"));
+    assert!(rt;
+        matches!(
+            outbox.effect(2),
+            Some(Effect::EnginePut {
+                conn: Conn(7),
+                bytes: b"put"
+            })
+        )
+    );
+    assert!(rt;
+        matches!(
+            outbox.effect(3),
+            Some(Effect::EngineWrite {
+                conn: Conn(7),
+                bytes: b""
+            })
+        )
+    );
+    assert!(rt;
+        matches!(
+            outbox.effect(4),
+            Some(Effect::EngineClose { conn: Conn(7) })
+        )
+    );
+    assert!(rt; matches!(outbox.effect(5), Some(Effect::Device { bytes: b"device" })));
+    assert!(rt;
+        matches!(
+            outbox.effect(6),
+            Some(Effect::Ask {
+                cid: Cid(3),
+                name: b"alice"
+            })
+        )
+    );
+    match outbox.effect(7) {
+        Some(
+            Effect::Configure {
+                address,
+                len,
+                gateway,
+                routes,
+                rest,
+            },
+        ) => {
+            assert_eq!(rt; address, Ip4(0x0A08_0002));
+            assert_eq!(rt; len, 24);
+            assert_eq!(rt; gateway, None);
+            assert_eq!(rt; routes.count(), 1);
+            assert_eq!(rt; rest.count(), 1);
+        }
+        _ => assert!(rt; false, "no configuration"),
+    }
+    assert!(rt; outbox.effect(8).is_none());
     Ok(())
 }

@@ -1,4 +1,4 @@
-use Rattle.std.proofs.Common.{◌≡◌, List, ℕ, [], ◌++◌, length, map, vec_capacity, ap, sym, subst, ◌∙◌, refl}
+use Rattle.std.proofs.Common.{List, ℕ, [], ◌++◌, length, map, vec_capacity, ap, sym, subst, ◌∙◌}
 use Rattle.vpn_links.specs.declared.store.Kept.{Kept}
 use Rattle.vpn_links.specs.declared.store.Staged.{Staged}
 use Rattle.vpn_links.specs.Actions.{Contents, on_wire}
