@@ -205,8 +205,10 @@ impl RecvSide {
     }
 
     /// How many ids wait to be acknowledged.
+    #[tactic(auto, unfolding(crate::specs::Sides::Stands))]
     pub fn acks_waiting(&self) -> u8
-        ensures { result ≡ length self.now.waiting }
+        ensures same { result ≡ length self.now.waiting }
+        ensures exact { (h : Receiving) → Stands self.now h → result ≡ length h.waiting }
     {
         self.waiting.len() as u8
     }

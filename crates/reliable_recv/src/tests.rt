@@ -31,6 +31,14 @@ fn payloads_are_read_in_order(rt: HostRuntime) -> Result<(), Fail> {
     read(&rt, &mut side, b"two");
     assert!(rt; side.next_in_order().is_none());
     assert_eq!(rt; side.read_count(), 3);
+    // A payload that was read comes again, and is to be acknowledged again.
+    assert_eq!(rt; side.take_acks(8).count, 4);
+    assert_eq!(rt; put(&rt, &mut side, 1, b"one")?, Got::Repeat);
+    assert!(rt; side.next_in_order().is_none());
+    let again = side.take_acks(8);
+    let ids = again.ids;
+    assert_eq!(rt; again.count, 1);
+    assert_eq!(rt; ids, [1, 0, 0, 0, 0, 0, 0, 0]);
     Ok(())
 }
 
