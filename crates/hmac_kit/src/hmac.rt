@@ -60,7 +60,7 @@ fn key_block_of<H: HashFunction<N>, const N: usize>(key: &[u8]) -> [u8; BLOCK_SI
 }
 
 // The HMAC of no text yet, under the key.
-pub fn keyed<H: HashFunction<N>, const N: usize>(key: &[u8]) -> Hmac<H>
+pub(crate) fn keyed<H: HashFunction<N>, const N: usize>(key: &[u8]) -> Hmac<H>
     requires { N ≤ 64 }
     ensures { HoldsText H.holds H.hash result key.now [] }
 {
@@ -73,7 +73,7 @@ pub fn keyed<H: HashFunction<N>, const N: usize>(key: &[u8]) -> Hmac<H>
 }
 
 // Adds a piece to the text.
-pub fn feed<H: HashFunction<N>, const N: usize>(mac: &mut Hmac<H>, piece: &[u8])
+pub(crate) fn feed<H: HashFunction<N>, const N: usize>(mac: &mut Hmac<H>, piece: &[u8])
     ensures { (key text : List ℕ) → HoldsText H.holds H.hash mac.old key text
         → HoldsText H.holds H.hash mac.new key (text ++ piece.now) }
 {
@@ -81,7 +81,7 @@ pub fn feed<H: HashFunction<N>, const N: usize>(mac: &mut Hmac<H>, piece: &[u8])
 }
 
 // The HMAC of the text.
-pub fn tag<H: HashFunction<N>, const N: usize>(mac: Hmac<H>) -> [u8; N]
+pub(crate) fn tag<H: HashFunction<N>, const N: usize>(mac: Hmac<H>) -> [u8; N]
     ensures { (key text : List ℕ) → HoldsText H.holds H.hash mac key text → result ≡ words.hmac H.hash key text }
 {
     let Hmac { inner, mut outer } = mac;

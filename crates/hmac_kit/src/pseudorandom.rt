@@ -51,7 +51,7 @@ fn xor_p_hash<H: HashFunction<N>, const N: usize>(secret: &[u8], seed: &[&[u8]],
 }
 
 // Fills `out` with that many bytes of the pseudorandom function, over the pieces of the label and the seed.
-pub fn prf_of_pieces(secret: &[u8], pieces: &[&[u8]], out: &mut [u8])
+pub(crate) fn prf_of_pieces(secret: &[u8], pieces: &[&[u8]], out: &mut [u8])
     ensures { out.new ≡ both_streams secret.now (concat (map (λ piece. piece.now) pieces.now)) (length out.old) }
 {
     let half = secret.len().div_ceil(2);

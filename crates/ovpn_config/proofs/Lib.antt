@@ -3,6 +3,7 @@ pub mod Lined
 pub mod CleanText
 pub mod RoundNumbers
 pub mod FirstLines
+pub mod Fronts
 pub mod RoundLines
 pub mod RoundItems
 pub mod RoundTable

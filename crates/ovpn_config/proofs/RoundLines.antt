@@ -12,7 +12,7 @@ use Rattle.vpn_text.specs.ConfigLine.{config_words, words_in}
 use Rattle.vpn_text.specs.Words.{is_control, line_words}
 use Rattle.config_directives.specs.Entries.{FileLine, block_behind, block_begun, entries, has_control, inside_entries, line_entries, outside_entries}
 use Rattle.ovpn_config.proofs.CleanText.{Laws, and_true, is_clean, no_control}
-use Rattle.ovpn_config.proofs.FirstLines.{entries-first, seen}
+use Rattle.ovpn_config.proofs.FirstLines.{entries-first, line_first, seen}
 
 -- a line without control bytes has no line feed, and no carriage return at its end
 not_feed : (c : ℕ) → not (is_control c) ≡ true → ((c == 10) ≡ false) × ((c == 13) ≡ false)
@@ -29,15 +29,8 @@ no_return [] (suc i) clean = refl
 no_return (c ∷ cs) zero clean = (not_feed c (and_true (not (is_control c)) (is_clean cs) clean).0).1
 no_return (c ∷ cs) (suc i) clean = no_return cs i (and_true (not (is_control c)) (is_clean cs) clean).1
 
-more_parts : (line : List ℕ) (parts : List (List ℕ)) → 0 < length parts → lines_of_parts (line ∷ parts) ≡ record { body = line; ended = true } ∷ lines_of_parts parts
-more_parts line [] some = absurd (omega arith)
-more_parts line (next ∷ parts) some = refl
-
 pub lines_of-line : (line rest : List ℕ) → is_clean line ≡ true → lines_of (line ++ 10 ∷ rest) ≡ record { body = line; ended = true } ∷ lines_of rest
-unfolding lines_of
-lines_of-line line rest clean =
-    ap lines_of_parts (slice_split_at (λ c. c == 10) line 10 rest (no_feed line clean) refl)
-    ∙ more_parts line (slice_split (λ c. c == 10) rest) (omega (arith, length-slice_split (λ c. c == 10) rest))
+lines_of-line line rest clean = line_first line rest (no_feed line clean)
 
 pub content-line : (line : List ℕ) → is_clean line ≡ true → content (record { body = line; ended = true }) ≡ line
 content-line line clean =

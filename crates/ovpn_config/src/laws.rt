@@ -1,6 +1,6 @@
 //! What holds of the settings of every file.
 
-ghost use Rattle.std.specs.Prelude.{◌≡◌, ℕ, List, Ok};
+ghost use Rattle.std.specs.Prelude.{◌≡◌, ℕ, List, Ok, take};
 ghost use Rattle.ovpn_config.specs.declared.settings.Settings.{Settings};
 ghost use Rattle.ovpn_config.specs.Bounds.{IsBounded};
 ghost use Rattle.ovpn_config.specs.Canonical.{KeepsLimits, canonical};
@@ -31,4 +31,10 @@ pub fn settings_are_bounded()
     reads_mask_again();
     reads_words_again();
     reads_no_control();
+}
+
+/// The first 65,537 bytes of a file decide its settings, or its fault: a longer file is too long.
+pub fn settings_are_of_the_front()
+    ensures { (text : List ℕ) → settings (take 65537 text) ≡ settings text }
+{
 }

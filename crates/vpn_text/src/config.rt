@@ -41,7 +41,7 @@ pub enum ConfigKind {
 /// Where a file of directives is wrong, and how.
 #[derive(Debug, Drop)]
 pub struct ConfigFault {
-    /// The number of the line, from 1.
+    /// The number of the line, from 1, or 0 where a file with no line lacks something.
     pub line: u32,
     /// What is wrong there.
     pub kind: ConfigKind,

@@ -42,12 +42,12 @@ told_key holds (Inline block) told read is text = text ∙ sym is
 configured_same : (h : Holding) (s t : Settings) → IsConfigured h s → Configured h t → t ≡ s
 configured_same Untold s t is c = absurd is
 configured_same Absent s t is c = absurd is
-configured_same (Held held) s t is c = ap (ok_or s) (sym c.accepted ∙ ap settings c.front ∙ is)
+configured_same (Held held) s t is c = ap (ok_or s) (sym c.accepted ∙ ap settings c.whole ∙ is)
 
 not_misconfigured : (h : Holding) (s : Settings) (fault : ConfigFault) → IsConfigured h s → Misconfigured h fault → ⊥
 not_misconfigured Untold s fault is m = is
 not_misconfigured Absent s fault is m = is
-not_misconfigured (Held held) s fault is m = not_both s fault (sym is ∙ ap settings (sym m.front) ∙ m.refused)
+not_misconfigured (Held held) s fault is m = not_both s fault (sym is ∙ ap settings (sym m.whole) ∙ m.refused)
 
 not_missing : (h : Holding) (s : Settings) → IsConfigured h s → IsMissing h → ⊥
 not_missing Untold s is missing = is

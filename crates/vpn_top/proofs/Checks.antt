@@ -1,15 +1,19 @@
 -- How `check` ends, once its refusal was told.
 use Rattle.std.proofs.Common.{◌≡◌, ℕ, List, take, ap, ◌∙◌, sym, subst, inl, inr, refl}
-use Rattle.std.specs.Prelude.{◌⊎◌, Option, Some, None}
-use Rattle.vpn_base.specs.Answers.{Rose}
-use Rattle.vpn_base.specs.Files.{Holding, Absent, IsMissing}
+use Rattle.std.specs.Prelude.{◌⊎◌, Option, Some, None, Ok, Err}
+use Rattle.vpn_base.specs.Answers.{Answers, Rose}
+use Rattle.vpn_base.specs.declared.errors.Or.{Or}
+use Rattle.vpn_base.specs.declared.errors.Or.TheVariants.{Why}
+use Rattle.vpn_base.specs.Files.{Holding, Untold, Absent, Held, IsMissing}
 use Rattle.vpn_base.specs.declared.outside.FileFault.{FileFault}
 use Rattle.vpn_base.specs.declared.outside.FileFault.TheVariants as faults
+use Rattle.vpn_text.specs.declared.config.ConfigFault.{ConfigFault}
 use Rattle.ovpn_config.specs.declared.settings.Settings.{Settings}
 use Rattle.ovpn_config.specs.declared.settings.KeyPlace.{KeyPlace}
 use Rattle.ovpn_config.specs.declared.settings.KeyPlace.TheVariants.{Named, Inline}
 use Rattle.ovpn_config.specs.Canonical.{canonical}
-use Rattle.vpn_top.specs.Configuration.{Configured, IsFrontOf, IsKeyText, Keyed}
+use Rattle.ovpn_config.specs.Reading.{settings}
+use Rattle.vpn_top.specs.Configuration.{Configured, IsFrontOf, IsKeyText, Keyed, Misconfigured}
 use Rattle.vpn_top.specs.Refused.{ConfigEnded, HasKey, IsGone, KeyEnded, KeyFileEnded, KeyedBy, LacksKey, Printing, gone_refusal}
 use Rattle.vpn_top.specs.declared.refusal.Refusal.{Refusal}
 use Rattle.vpn_top.specs.declared.refusal.Refusal.TheVariants as refusals
@@ -42,6 +46,25 @@ config_gone holds name files faults.Missing r subject missing failed (inl both) 
 config_gone holds name files faults.Failed r subject missing failed (inl both) = subst (λ (x : Refusal). ConfigEnded holds name files x subject) (sym both.0) (both.1, failed refl)
 config_gone holds name files faults.Missing r subject missing failed (inr memory) = subst (λ (x : Refusal). ConfigEnded holds name files x subject) (sym memory) tt
 config_gone holds name files faults.Failed r subject missing failed (inr memory) = subst (λ (x : Refusal). ConfigEnded holds name files x subject) (sym memory) tt
+
+-- the front of a configuration decides it
+pub configured_by : (n : ℕ) (h : Holding) (front : List ℕ) (s : Settings) → ((text : List ℕ) → settings (take 65537 text) ≡ settings text)
+    → n ≡ 65537 → IsFrontOf n h front → settings front ≡ Ok s → Configured h s
+configured_by n Untold front s law size is read = record { bytes = front; whole = tt; accepted = read }
+configured_by n Absent front s law size is read = absurd is
+configured_by n (Held held) front s law size is read =
+    record { bytes = held; whole = refl; accepted = sym (law held) ∙ ap (λ (m : ℕ). settings (take m held)) (sym size) ∙ ap settings (sym is) ∙ read }
+
+pub misconfigured_by : (n : ℕ) (h : Holding) (front : List ℕ) (why : Or ConfigFault) (fault : ConfigFault) → ((text : List ℕ) → settings (take 65537 text) ≡ settings text)
+    → n ≡ 65537 → IsFrontOf n h front → why ≡ Why fault → Answers (Err why) (settings front) → Misconfigured h fault
+misconfigured_by n Untold front why fault law size is because read =
+    record { bytes = front; whole = tt; refused = subst (λ (e : Or ConfigFault). Answers (Err e) (settings front)) because read }
+misconfigured_by n Absent front why fault law size is because read = absurd is
+misconfigured_by n (Held held) front why fault law size is because read = record {
+  bytes = held;
+  whole = refl;
+  refused = sym (law held) ∙ ap (λ (m : ℕ). settings (take m held)) (sym size) ∙ ap settings (sym is) ∙ subst (λ (e : Or ConfigFault). Answers (Err e) (settings front)) because read;
+}
 
 -- the file of the static key is not there or could not be read
 pub key_gone : (holds : List ℕ → Holding) (name : List ℕ) (files : ℕ × ℕ) (fault : FileFault) (r : Refusal) (subject : List ℕ)

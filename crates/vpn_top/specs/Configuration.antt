@@ -8,6 +8,7 @@ use Rattle.ovpn_config.specs.declared.settings.Settings.{Settings}
 use Rattle.ovpn_config.specs.declared.settings.KeyPlace.{KeyPlace}
 use Rattle.ovpn_config.specs.declared.settings.KeyPlace.TheVariants.{Named, Inline}
 use Rattle.ovpn_config.specs.Reading.{settings}
+use Rattle.vpn_top.specs.Written.{IsWhole}
 
 -- these are the first so many bytes of a file, where it is told
 abbrev pub IsFrontOf : ℕ → Holding → List ℕ → Type 0
@@ -15,16 +16,16 @@ IsFrontOf most Untold bytes = Unit {0}
 IsFrontOf most Absent bytes = ⊥
 IsFrontOf most (Held held) bytes = bytes ≡ take most held
 
--- the settings of a configuration file, of which 65,536 bytes are read, and one more to see whether it is too long
+-- the settings of a configuration file
 pub record Configured (holding : Holding) (s : Settings) : Type 0 where
   pub bytes : List ℕ
-  pub front : IsFrontOf 65537 holding bytes
+  pub whole : IsWhole holding bytes
   pub accepted : settings bytes ≡ Ok s
 
 -- its fault
 pub record Misconfigured (holding : Holding) (fault : ConfigFault) : Type 0 where
   pub bytes : List ℕ
-  pub front : IsFrontOf 65537 holding bytes
+  pub whole : IsWhole holding bytes
   pub refused : settings bytes ≡ Err fault
 
 -- the text of a static key: the first 65,536 bytes of the file that is named, or the block
@@ -57,12 +58,12 @@ IsWanted holds name file = (file ≡ name) ⊎ IsKeyFile (holds name) file
 
 -- where everything is told: the file holds these settings
 abbrev pub IsConfigured : Holding → Settings → Type 0
-IsConfigured (Held held) s = settings (take 65537 held) ≡ Ok s
+IsConfigured (Held held) s = settings held ≡ Ok s
 IsConfigured _ s = ⊥
 
 -- where everything is told: the file has this fault
 abbrev pub IsMisconfigured : Holding → ConfigFault → Type 0
-IsMisconfigured (Held held) fault = settings (take 65537 held) ≡ Err fault
+IsMisconfigured (Held held) fault = settings held ≡ Err fault
 IsMisconfigured _ fault = ⊥
 
 -- where everything is told: the text of a static key in this file is this

@@ -10,7 +10,7 @@ ghost use Rattle.vpn_top.specs.Refused.{ConfigEnded, HasKey, KeyEnded, KeyFileEn
 use crate::front::read_front;
 use crate::refusal::Refusal;
 use crate::writing::write_all;
-use ovpn_config::{KeyPlace, Settings, read_config, write_config};
+use ovpn_config::{KeyPlace, Settings, read_config, settings_are_of_the_front, write_config};
 use std::alloc::Global;
 use tls_crypt::read_static_key;
 use vpn_base::{FileFault, Files, Or, Sink, Text};
@@ -52,20 +52,24 @@ fn gone(alloc: Global, name: &[u8], fault: FileFault) -> Refused
     }
 }
 
-// Reads the configuration file of this name.
-fn load_config<F: Files>(alloc: Global, name: &[u8], files: &mut F) -> Result<Settings, Refused>
+// Reads the configuration file of this name, whose front is read into the buffer.
+fn load_config_in<F: Files>(
+    alloc: Global,
+    name: &[u8],
+    files: &mut F,
+    buffer: &mut [u8],
+) -> Result<Settings, Refused>
+    requires { length buffer.old ≡ 65537 }
     ensures ok { IfOk result (λ s. Configured (F.holds files.old name.now) s) }
     ensures err { IfErr result (λ r. ConfigEnded (F.holds files.old) name.now (F.faults files.old, F.faults files.new) r.refusal r.subject) }
     ensures kept { (n : List ℕ) → F.holds files.new n ≡ F.holds files.old n }
     ensures never_falls { F.faults files.old ≤ F.faults files.new }
 {
-    let Ok(mut buffer) = vec![in alloc; 0u8; CONFIG] else {
-        return Err(unnamed(alloc, Refusal::NoMemory));
-    };
-    let count = match read_front(name, files, &mut buffer) {
+    let count = match read_front(name, files, buffer) {
         Ok(count) => count,
         Err(fault) => return Err(gone(alloc, name, fault)),
     };
+    settings_are_of_the_front();
     match read_config(alloc, &buffer[..count]) {
         Ok(settings) => Ok(settings),
         Err(Or::Why(fault)) => Err(Refused {
@@ -77,6 +81,19 @@ fn load_config<F: Files>(alloc: Global, name: &[u8], files: &mut F) -> Result<Se
         }),
         Err(Or::Memory) => Err(unnamed(alloc, Refusal::NoMemory)),
     }
+}
+
+// Reads the configuration file of this name.
+fn load_config<F: Files>(alloc: Global, name: &[u8], files: &mut F) -> Result<Settings, Refused>
+    ensures ok { IfOk result (λ s. Configured (F.holds files.old name.now) s) }
+    ensures err { IfErr result (λ r. ConfigEnded (F.holds files.old) name.now (F.faults files.old, F.faults files.new) r.refusal r.subject) }
+    ensures kept { (n : List ℕ) → F.holds files.new n ≡ F.holds files.old n }
+    ensures never_falls { F.faults files.old ≤ F.faults files.new }
+{
+    let Ok(mut buffer) = vec![in alloc; 0u8; CONFIG] else {
+        return Err(unnamed(alloc, Refusal::NoMemory));
+    };
+    load_config_in(alloc, name, files, &mut buffer)
 }
 
 // Judges the text of a static key.
