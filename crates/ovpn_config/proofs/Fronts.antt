@@ -1,7 +1,6 @@
 -- A file that is too long is judged by its front alone.
 use Rattle.std.proofs.Common.{◌≡◌, ℕ, suc, zero, ◌+◌, ◌-◌, ◌<◌, ◌≤◌, ◌==◌, ◌||◌, ◌⊎◌, inl, inr, Bool, true, false, cond, List, [], ◌∷◌, ◌++◌, length, take, min, refl, ap, sym, subst, ◌∙◌, arith, length-append}
 use Rattle.std.specs.Prelude.{Option, Some, None, option_map, Result, Ok, Err, nat_lt, bytes_eq, All}
-use Rattle.std.specs.List.{slice_split}
 use Rattle.std.proofs.lemmas.List.{take-append-le, length-take, take_all}
 use Rattle.std.proofs.lemmas.List.Elements.{All-take}
 use Rattle.std.proofs.lemmas.List.Splits.{slice_split_none}
@@ -15,12 +14,11 @@ use Rattle.vpn_text.specs.declared.config.ConfigKind.{ConfigKind}
 use Rattle.vpn_text.specs.declared.config.ConfigKind.TheVariants.{Long, Control}
 use Rattle.vpn_text.specs.ConfigLine.{config_words, words_in}
 use Rattle.vpn_text.specs.Words.{line_words}
-use Rattle.config_directives.specs.declared.item.Item.TheVariants.{Words, Block}
+use Rattle.config_directives.specs.declared.item.Item.TheVariants.{Block}
 use Rattle.config_directives.specs.declared.item.Directive.{Directive}
 use Rattle.config_directives.specs.Blocks.{block_end}
-use Rattle.config_directives.specs.Entries.{Entry, Faulty, FileLine, Given, begun_by, block_behind, block_begun, entries, has_control, inside_entries, inside_kind, is_over, item_begun, item_on, line_behind, line_entries, outside_entries, until_end, words_on}
+use Rattle.config_directives.specs.Entries.{Entry, Faulty, FileLine, Given, begun_by, block_behind, block_begun, entries, has_control, inside_entries, is_over, item_begun, line_behind, line_entries, outside_entries, until_end, words_on}
 use Rattle.config_directives.specs.Judging.{judged, kind_of, unless_wrong}
-use Rattle.ovpn_config.specs.declared.settings.Settings.{Settings}
 use Rattle.ovpn_config.specs.Reading.{settings, settings_from}
 use Rattle.ovpn_config.proofs.FirstLines.{line_first}
 
@@ -225,10 +223,10 @@ agree_divided : (fuel before : ℕ) (line rest : List ℕ) → AgreesBelow fuel 
     → AgreeTo before (lines_of (line ++ 10 ∷ rest)) (lines_of (take (65537 - before) (line ++ 10 ∷ rest)))
 agree_divided fuel before line rest recur clean short low over =
     elim (cases_lt (before + length line) 65536) [
-      inl inside ↦ agree_within (65537 - (before + (length line + 1))) (65537 - before) before line rest clean (omega arith) (recur (before + (length line + 1)) rest short (omega arith) (omega arith))
-    | inr past ↦ elim (cases_lt 65536 (before + length line)) [
-        inl behind ↦ agree_cut (65537 - before) before line rest clean (omega arith) low (omega arith)
-      | inr last ↦ agree_ended (65537 - before) before line rest clean (omega arith) (omega arith)
+      | inl inside ↦ agree_within (65537 - (before + (length line + 1))) (65537 - before) before line rest clean (omega arith) (recur (before + (length line + 1)) rest short (omega arith) (omega arith))
+      | inr past ↦ elim (cases_lt 65536 (before + length line)) [
+        | inl behind ↦ agree_cut (65537 - before) before line rest clean (omega arith) low (omega arith)
+        | inr last ↦ agree_ended (65537 - before) before line rest clean (omega arith) (omega arith)
       ]
     ]
 

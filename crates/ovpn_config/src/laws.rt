@@ -36,5 +36,4 @@ pub fn settings_are_bounded()
 /// The first 65,537 bytes of a file decide its settings, or its fault: a longer file is too long.
 pub fn settings_are_of_the_front()
     ensures { (text : List ℕ) → settings (take 65537 text) ≡ settings text }
-{
-}
+{}
