@@ -275,7 +275,9 @@ impl Reader {
 
 /// The directives of a file, each judged by itself and beside those before it. A refusal is the
 /// first line with a fault, of those that a line or a directive has of itself: `Long`, `Control`,
-/// `Quote`, `Escape`, `Unknown`, `Refused`, `Arguments`, `Repeated` and `Block`.
+/// `Quote`, `Escape`, `Unknown`, `Refused`, `Arguments`, `Repeated` and `Block`, which are judged in
+/// this order within a line; in a block only the first two are, and a block that is open where the
+/// file passes 65,536 bytes is no `Block`.
 pub fn read_directives(alloc: Global, text: &[u8]) -> Result<FileDirectives, Or<ConfigFault>>
     ensures ok { IfOk result (λ file. judged [] (entries None 0 0 (lines_of text.now)) ≡ Ok file.directives.items) }
     ensures last { IfOk result (λ file. file.last ≡ length (lines_of text.now)) }

@@ -8,7 +8,7 @@ use crate::runs::read_texts;
 use opcode_codec::{Opcode, Packet, read_control, read_packet};
 use std::alloc::Global;
 use std::test::Fail;
-use tls_crypt::{StaticKey, Wrap, Wrapper};
+use tls_crypt::{Datagram, StaticKey, Wrapper};
 use vpn_base::{Addr, Bytes, Conn, Freshness, Ip4, Moment, NoMemory, Or, Role, Sid};
 use vpn_links::{ControlText, Effect, Outbox};
 
@@ -132,7 +132,10 @@ fn hear(
     let Ok(Packet::Wrapped { op, kid: 0, sid: _ }) = read_packet(datagram) else {
         return Err("no control packet")?;
     };
-    let opened = reads.unwrap(bytes.as_mut_slice())?;
+    let mut datagram = Datagram {
+        bytes: bytes.as_mut_slice(),
+    };
+    let opened = datagram.unwrap(&reads)?;
     match env.check(&opened, now) {
         Freshness::Fresh => {
             env.accept(&opened, now);

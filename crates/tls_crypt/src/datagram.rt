@@ -1,7 +1,5 @@
 //! Datagrams that are unwrapped where they lie.
 
-ghost use Rattle.std.specs.Prelude.{◌≡◌, ◌≤◌, length, drop};
-
 use crate::half::OVERHEAD;
 use crate::header::Header;
 use crate::wrapping::{Opened, Unwrap, Wrap};
@@ -14,7 +12,7 @@ pub struct Datagram<'a> {
 }
 
 impl Datagram<'_> {
-    ghost use Rattle.std.specs.Prelude.{◌≡◌, ◌≤◌, ◌<◌, ◌↔◌, length, IfOk, IsErrOf};
+    ghost use Rattle.std.specs.Prelude.{◌≡◌, ◌≤◌, ◌<◌, ◌↔◌, length, drop, IfOk, IsErrOf};
     ghost use Rattle.std.specs.Borrow.{sem};
     ghost use Rattle.tls_crypt.specs.Lending.{IsKeptIfRefused};
     ghost use Rattle.tls_crypt.specs.Packets.{IsWrappedByNone};
@@ -42,27 +40,18 @@ impl Datagram<'_> {
         ensures header { (result.first ≡ header.first) × (result.sid ≡ header.sid) × (result.id ≡ header.id) × (result.time ≡ header.time) }
         ensures plain { result.plain.now ≡ drop 49 self.now.bytes.now }
     {
-        view(header, self.bytes)
-    }
-}
-
-// The packet with this header, whose plain text stands in an unwrapped datagram.
-pub(crate) fn view<'d>(header: Header, datagram: &'d [u8]) -> Opened<'d>
-    requires { 49 ≤ length datagram.now }
-    ensures header { (result.first ≡ header.first) × (result.sid ≡ header.sid) × (result.id ≡ header.id) × (result.time ≡ header.time) }
-    ensures plain { result.plain.now ≡ drop 49 datagram.now }
-{
-    let Header {
-        first,
-        sid,
-        id,
-        time,
-    } = header;
-    Opened {
-        first,
-        sid,
-        id,
-        time,
-        plain: &datagram[OVERHEAD..],
+        let Header {
+            first,
+            sid,
+            id,
+            time,
+        } = header;
+        Opened {
+            first,
+            sid,
+            id,
+            time,
+            plain: &self.bytes[OVERHEAD..],
+        }
     }
 }

@@ -89,7 +89,10 @@ fn wraps<W: Wrap>(
     assert_eq!(rt; found, expected);
     assert_eq!(rt; refusal(own, &mut buffer[..len]), Some(Unwrap::NotWrapped));
     assert_eq!(rt; buffer, wrapped);
-    match other.unwrap(&mut buffer[..len]) {
+    let mut datagram = Datagram {
+        bytes: &mut buffer[..len],
+    };
+    match datagram.unwrap(other) {
         Ok(opened) => {
             assert_eq!(rt; opened.first, first);
             assert_eq!(rt; opened.sid, sid);

@@ -3,7 +3,6 @@
 ghost use Rattle.std.specs.Prelude.{◌≡◌, ◌≤◌, ◌<◌, ◌+◌, ◌↔◌, ℕ, List, length, take, drop, IfOk, IsErrOf, OnOk, OnErr};
 ghost use Rattle.tls_crypt.specs.Packets.{IsOneToOne, IsWrappedByNone};
 
-use crate::datagram::view;
 use crate::header::Header;
 use vpn_base::Sid;
 
@@ -61,23 +60,6 @@ pub trait Wrap {
         ensures long { OnOk result (49 ≤ length datagram.old) }
         ensures front { OnOk result (take 49 datagram.new ≡ take 49 datagram.old) }
         ensures unchanged { OnErr result (datagram.new ≡ datagram.old) };
-
-    /// Unwraps a datagram in place, and answers the packet, whose plain text stays in the datagram.
-    ///
-    /// `Short` comes exactly below 49 bytes, and `NotWrapped` exactly where no packet wraps to the
-    /// datagram at the other end. The datagram is then as `unwrap_in_place` leaves it; no clause can
-    /// say so here, where the datagram is not the first argument, and `Datagram::unwrap` says it.
-    final fn unwrap<'d>(&self, datagram: &'d mut [u8]) -> Result<Opened<'d>, Unwrap>
-        ensures opened { IfOk result (λ o.
-            datagram.old ≡ unwrapped self.now o.first o.sid.0 o.id o.time o.plain.now) }
-        ensures refused { IsErrOf result Unwrap.NotWrapped → IsWrappedByNone (unwrapped self.now) datagram.old }
-        ensures short { IsErrOf result Unwrap.Short ↔ (length datagram.old < 49) }
-    {
-        match self.unwrap_in_place(datagram) {
-            Ok(header) => Ok(view(header, datagram)),
-            Err(fault) => Err(fault),
-        }
-    }
 
     /// No two packets wrap to one datagram at this end.
     ghost wrapped_once: { (w : Self) → IsOneToOne (wrapped w) };

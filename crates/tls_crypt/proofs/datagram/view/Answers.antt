@@ -1,5 +1,0 @@
-use Rattle.std.proofs.lemmas.List.{take_rest}
-use Rattle.tls_crypt.proofs.datagram.view.Goals as goal
-
-pub returns-clause-plain : goal.returns-clause-plain
-returns-clause-plain c = take_rest c.args.datagram.now 49
