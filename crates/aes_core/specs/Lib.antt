@@ -7,3 +7,4 @@ pub mod Words
 pub mod Schedule
 pub mod Columns
 pub mod SharedRounds
+pub mod Laws

@@ -18,7 +18,7 @@ pub struct Envelope<W: Drop> {
     wrap: W,
     own: Sid,
     time: u32,
-    ids: SendIds,
+    pub(crate) ids: SendIds,
     window: LongWindow,
 }
 

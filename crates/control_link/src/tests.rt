@@ -6,6 +6,7 @@ ghost use Rattle.std.specs.Prelude.{◌≡◌, false};
 use super::*;
 use crate::runs::read_texts;
 use opcode_codec::{Opcode, Packet, read_control, read_packet};
+use packet_ids::SendIds;
 use std::alloc::Global;
 use std::test::Fail;
 use tls_crypt::{Datagram, StaticKey, Wrapper};
@@ -285,6 +286,23 @@ fn no_more_than_65536_bytes_wait(rt: HostRuntime) -> Result<(), Fail> {
         matches!(
             say(client, b"x", Moment(0), &mut out),
             Err(Or::Why(LinkEnd::TextFull))
+        )
+    );
+    assert_eq!(rt; out.staged(), 1);
+    Ok(())
+}
+
+#[test]
+fn the_last_wrap_id_is_used_once(rt: HostRuntime) -> Result<(), Fail> {
+    let mut out = Outbox::make(rt.alloc())?;
+    let mut client = end_of(rt.alloc(), Role::Client, Sid([1; 8]), Sid([2; 8]))?;
+    client.env.ids = SendIds::at(0xFFFF_FFFE);
+    client = say(client, b"", Moment(0), &mut out)?;
+    assert_eq!(rt; out.staged(), 1);
+    assert!(rt;
+        matches!(
+            tick(client, Moment(2000), &mut out),
+            Err(Or::Why(LinkEnd::WrapSpent))
         )
     );
     assert_eq!(rt; out.staged(), 1);
