@@ -7,7 +7,7 @@ ghost use Rattle.vpn_links.specs.Actions.{Configure, Holds, IsPlain, action, car
 ghost use Rattle.vpn_links.specs.Store.{IsKeptWithin, IsWithin, kept_action, kept_datagram, own, part};
 
 use crate::effects::Effect;
-use crate::store::{Kept, Span, Staged};
+use crate::store::{Kept, Setup, Span, Staged};
 use std::alloc::Global;
 use std::marker::Model;
 use vpn_base::{Addr, Ip4, NoMemory, RouteList, TextList};
@@ -116,6 +116,19 @@ fn keep(store: &mut Vec<u8>, e: &Effect<'_>) -> Result<Kept, NoMemory>
     }
 }
 
+// Lends a configuration of the packet device.
+fn lend_setup(setup: &Setup) -> Effect<'_>
+    ensures { action result ≡ Configure setup.now.address setup.now.len setup.now.gateway setup.now.routes setup.now.rest }
+{
+    Effect::Configure {
+        address: setup.address,
+        len: setup.len,
+        gateway: setup.gateway,
+        routes: &setup.routes,
+        rest: &setup.rest,
+    }
+}
+
 // Lends what is kept.
 fn lend_kept<'a>(store: &'a [u8], kept: &'a Kept) -> Effect<'a>
     requires { IsKeptWithin (length store.now) kept.now }
@@ -142,19 +155,7 @@ fn lend_kept<'a>(store: &'a [u8], kept: &'a Kept) -> Effect<'a>
         Kept::Device { span } => Effect::Device {
             bytes: lend(store, *span),
         },
-        Kept::Configure {
-            address,
-            len,
-            gateway,
-            routes,
-            rest,
-        } => Effect::Configure {
-            address: *address,
-            len: *len,
-            gateway: *gateway,
-            routes,
-            rest,
-        },
+        Kept::Configure(setup) => lend_setup(setup),
         Kept::Ask { cid, span } => Effect::Ask {
             cid: *cid,
             name: lend(store, *span),
@@ -273,13 +274,13 @@ impl Outbox {
     {
         append(
             &mut self.effects,
-            Kept::Configure {
+            Kept::Configure(Setup {
                 address,
                 len,
                 gateway,
                 routes,
                 rest,
-            },
+            }),
         );
     }
 

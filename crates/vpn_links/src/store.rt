@@ -10,45 +10,28 @@ pub(crate) struct Span {
     pub(crate) len: usize,
 }
 
+// A configuration of the packet device.
+#[derive(Debug, Drop)]
+pub(crate) struct Setup {
+    pub(crate) address: Ip4,
+    pub(crate) len: u8,
+    pub(crate) gateway: Option<Ip4>,
+    pub(crate) routes: RouteList,
+    pub(crate) rest: TextList,
+}
+
 // An effect, with the place of its bytes.
 #[derive(Debug, Drop)]
 pub(crate) enum Kept {
-    Wire {
-        to: Addr,
-        span: Span,
-    },
-    EngineOpen {
-        conn: Conn,
-        role: Role,
-    },
-    EnginePut {
-        conn: Conn,
-        span: Span,
-    },
-    EngineWrite {
-        conn: Conn,
-        span: Span,
-    },
-    EngineClose {
-        conn: Conn,
-    },
-    Device {
-        span: Span,
-    },
-    Configure {
-        address: Ip4,
-        len: u8,
-        gateway: Option<Ip4>,
-        routes: RouteList,
-        rest: TextList,
-    },
-    Ask {
-        cid: Cid,
-        span: Span,
-    },
-    Say {
-        span: Span,
-    },
+    Wire { to: Addr, span: Span },
+    EngineOpen { conn: Conn, role: Role },
+    EnginePut { conn: Conn, span: Span },
+    EngineWrite { conn: Conn, span: Span },
+    EngineClose { conn: Conn },
+    Device { span: Span },
+    Configure(Setup),
+    Ask { cid: Cid, span: Span },
+    Say { span: Span },
     Report(Note),
     Stop,
 }
