@@ -6,10 +6,12 @@ use vpn_base::{Bytes, MemFiles, MemSink, Text};
 mod checking;
 mod sealing;
 
+// A run: the words, what the files f and ta.key hold, the reads that fail, and the room of both outputs.
 #[derive(Clone, Copy)]
 struct Case<'a> {
     words: &'a [&'a str],
     file: &'a [u8],
+    key: &'a [u8],
     failing: &'a [u64],
     room: usize,
     err_room: usize,
@@ -19,6 +21,7 @@ fn of_file(file: &[u8]) -> Case<'_> {
     Case {
         words: &["route", "f"],
         file,
+        key: b"",
         failing: &[],
         room: 4096,
         err_room: 4096,
@@ -32,19 +35,44 @@ struct Answer {
     err: MemSink,
 }
 
-fn run_case(alloc: Global, case: &Case<'_>) -> Result<Answer, Fail> {
+fn words_of(alloc: Global, case: &Case<'_>) -> Result<Vec<String>, Fail> {
     let mut words = Vec::new(alloc);
     for word in case.words {
         words.push(String::from_str(alloc, word)?)?;
     }
+    Ok(words)
+}
+
+fn hold(
+    alloc: Global,
+    held: &mut Vec<(Text, Bytes)>,
+    name: &[u8],
+    bytes: &[u8],
+) -> Result<(), Fail> {
+    let name = Text::copy(alloc, name)?;
+    let bytes = Bytes::copy(alloc, bytes)?;
+    held.push((name, bytes))?;
+    Ok(())
+}
+
+fn files_of(alloc: Global, case: &Case<'_>) -> Result<MemFiles, Fail> {
     let mut held = Vec::new(alloc);
-    held.push((Text::copy(alloc, b"f")?, Bytes::copy(alloc, case.file)?))?;
-    let outside = Outside {
-        files: MemFiles::new(held, case.failing.to_vec(alloc)?),
-        out: MemSink::new(alloc, case.room, Vec::new(alloc))?,
-        err: MemSink::new(alloc, case.err_room, Vec::new(alloc))?,
-    };
-    let (status, outside) = vpn_main(alloc, words.as_slice(), outside);
+    hold(alloc, &mut held, b"f", case.file)?;
+    hold(alloc, &mut held, b"ta.key", case.key)?;
+    let failing = case.failing.to_vec(alloc)?;
+    Ok(MemFiles::new(held, failing))
+}
+
+fn sink_of(alloc: Global, room: usize) -> Result<MemSink, Fail> {
+    Ok(MemSink::new(alloc, room, Vec::new(alloc))?)
+}
+
+fn run_case(alloc: Global, case: &Case<'_>) -> Result<Answer, Fail> {
+    let words = words_of(alloc, case)?;
+    let files = files_of(alloc, case)?;
+    let out = sink_of(alloc, case.room)?;
+    let err = sink_of(alloc, case.err_room)?;
+    let (status, outside) = vpn_main(alloc, words.as_slice(), Outside { files, out, err });
     let Outside { files: _, out, err } = outside;
     Ok(Answer { status, out, err })
 }

@@ -1,9 +1,7 @@
 //! Configurations that are checked.
 
-use super::{Answer, Outside, vpn_main};
-use std::alloc::Global;
-use std::test::Fail;
-use vpn_base::{Bytes, MemFiles, MemSink, Text};
+use super::*;
+use std::process::Abort;
 
 const SERVER: &[u8] =
     b"dev tun\nproto udp\nport 1194\nserver 10.8.0.0 255.255.255.0\ntopology subnet\n\
@@ -46,27 +44,12 @@ const CLIENT_PRINTED_BACK: &[u8] =
     b"</tls-crypt>\ndata-ciphers AES-256-GCM:AES-128-GCM\nreneg-sec 3600\ntran-window 3600\n\
 hand-window 60\ntls-timeout 2\nreplay-window 64 15\nremote-cert-tls server\n";
 
-fn check_files(
-    alloc: Global,
-    config: &[u8],
-    key: &[u8],
-    failing: &[u64],
-    room: usize,
-) -> Result<Answer, Fail> {
-    let mut words = Vec::new(alloc);
-    words.push(String::from_str(alloc, "check")?)?;
-    words.push(String::from_str(alloc, "f")?)?;
-    let mut held = Vec::new(alloc);
-    held.push((Text::copy(alloc, b"f")?, Bytes::copy(alloc, config)?))?;
-    held.push((Text::copy(alloc, b"ta.key")?, Bytes::copy(alloc, key)?))?;
-    let outside = Outside {
-        files: MemFiles::new(held, failing.to_vec(alloc)?),
-        out: MemSink::new(alloc, room, Vec::new(alloc))?,
-        err: MemSink::new(alloc, 4096, Vec::new(alloc))?,
-    };
-    let (status, outside) = vpn_main(alloc, words.as_slice(), outside);
-    let Outside { files: _, out, err } = outside;
-    Ok(Answer { status, out, err })
+fn of_files<'a>(file: &'a [u8], key: &'a [u8]) -> Case<'a> {
+    Case {
+        words: &["check", "f"],
+        key,
+        ..of_file(file)
+    }
 }
 
 fn joined(alloc: Global, parts: &[&[u8]]) -> Result<Vec<u8>, Fail> {
@@ -89,7 +72,7 @@ fn accepted_configurations_are_printed(rt: HostRuntime) -> Result<(), Fail> {
         (&client_printed, &client_printed),
     ];
     for (i, (config, want)) in cases.iter().enumerate() {
-        let answer = check_files(alloc, config, KEY, &[], 65_536)?;
+        let answer = run_case(alloc, &of_files(config, KEY))?;
         assert_eq!(rt; answer.status, 0, "case {i}");
         assert_eq!(rt; answer.out.held(), *want, "case {i}");
         assert_eq!(rt; answer.err.held(), b"".as_slice(), "case {i}");
@@ -126,11 +109,23 @@ fn faulty_configurations_are_refused(rt: HostRuntime) -> Result<(), Fail> {
         ),
     ];
     for (i, (config, key, failing, status, err)) in cases.iter().enumerate() {
-        let answer = check_files(alloc, config, key, failing, 4096)?;
+        let case = Case {
+            failing,
+            ..of_files(config, key)
+        };
+        let answer = run_case(alloc, &case)?;
         assert_eq!(rt; answer.status, *status, "case {i}");
         assert_eq!(rt; answer.out.held(), b"".as_slice(), "case {i}");
         assert_eq!(rt; answer.err.held(), *err, "case {i}");
     }
+    Ok(())
+}
+
+// The configuration is too long, and the error output says so.
+fn is_long(rt: &impl Abort, alloc: Global, file: &[u8], told: &[u8]) -> Result<(), Fail> {
+    let answer = run_case(alloc, &of_files(file, KEY))?;
+    assert_eq!(rt; answer.status, 2);
+    assert_eq!(rt; answer.err.held(), told);
     Ok(())
 }
 
@@ -144,14 +139,14 @@ fn long_files_and_full_outputs(rt: HostRuntime) -> Result<(), Fail> {
         }
         long.push(b'\n')?;
     }
-    let answer = check_files(alloc, &long, KEY, &[], 4096)?;
-    assert_eq!(rt; answer.status, 2);
-    assert_eq!(rt; answer.err.held(), b"line 66: long\n".as_slice());
+    is_long(&rt, alloc, &long, b"line 66: long\n")?;
     let block = joined(alloc, &[b"<ca>\n", &long, b"</ca>\n"])?;
-    let answer = check_files(alloc, &block, KEY, &[], 4096)?;
-    assert_eq!(rt; answer.status, 2);
-    assert_eq!(rt; answer.err.held(), b"line 67: long\n".as_slice());
-    let answer = check_files(alloc, SERVER, KEY, &[], 10)?;
+    is_long(&rt, alloc, &block, b"line 67: long\n")?;
+    let full = Case {
+        room: 10,
+        ..of_files(SERVER, KEY)
+    };
+    let answer = run_case(alloc, &full)?;
     assert_eq!(rt; answer.status, 6);
     assert_eq!(rt; answer.out.held(), b"server 10.".as_slice());
     assert_eq!(rt; answer.err.held(), b"output\n".as_slice());
