@@ -1,7 +1,7 @@
 -- Sums of lists of bytes, part by part.
 use Rattle.std.proofs.Common.{◌≡◌, ℕ, zero, suc, ◌+◌, ◌<◌, ◌≤◌, List, [], ◌∷◌, ◌++◌, length, get_or, set, take, drop, bit_xor, refl, sym, ap, ◌∙◌, arith}
 use Rattle.std.proofs.lemmas.Nat.{xor_comm}
-use lib.Bits.{xor_assoc, xor_self, xor_zero_r}
+use lib.Bits.{xor_assoc}
 use Rattle.aes_core.specs.Field.{xor_bytes}
 
 pub xor_bytes-nil : (xs : List ℕ) → xor_bytes xs [] ≡ xs
