@@ -1,0 +1,9 @@
+pub mod Places
+pub mod KeySessions
+pub mod Peer
+pub mod ControlPackets
+pub mod EngineAnswers
+pub mod Exchange
+pub mod DataPackets
+pub mod Time
+pub mod Naming

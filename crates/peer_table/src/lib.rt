@@ -1,0 +1,7 @@
+//! One client of a server as plain data, with each call of its session as one function, and the trait by
+//! which a core knows a client's session. There is no code here but what these need.
+#![tactic(auto)]
+
+mod outcomes;
+
+pub use outcomes::{Refused, SessionFault, Turn};

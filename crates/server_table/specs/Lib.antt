@@ -1,0 +1,14 @@
+pub mod Table
+pub mod Lookups
+pub mod Courses
+pub mod Endings
+pub mod InnerPackets
+pub mod DataDatagrams
+pub mod ControlDatagrams
+pub mod Establishing
+pub mod Exchange
+pub mod Engine
+pub mod Time
+pub mod Step
+pub mod Runs
+pub mod Senders
