@@ -1,8 +1,8 @@
 -- What holds of packets under any sealing: what was sealed opens, and at most one inner packet does.
 use Rattle.std.proofs.Common.{◌≡◌, ℕ, ◌^◌, ◌<◌, List, length, take, drop, subst, sym, ap, ◌∙◌}
 use Rattle.opcode_codec.specs.DataPacket.{DataForm, data_head, data_packet}
-use Rattle.sealed_packet.specs.SealedPacket.{Opens, Sealing, form, nonce, packet, peer_in, sealed_inner}
-use Rattle.sealed_packet.specs.Parts.{IsReadable, id_in, peer_read, id_read, tag_read, text_read}
+use Rattle.sealed_packet.specs.SealedPacket.{Opens, Sealing, form, id_in, nonce, packet, peer_in, sealed_inner}
+use Rattle.sealed_packet.specs.Parts.{IsReadable, peer_read, id_read, tag_read, text_read}
 
 -- a sealing's tag has 16 bytes
 abbrev pub Lengths : Sealing → Type 0

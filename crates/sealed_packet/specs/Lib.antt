@@ -1,4 +1,5 @@
 pub mod Head
 pub mod SealedPacket
+pub mod Opening
 pub mod Parts
 pub mod Laws

@@ -4,7 +4,7 @@ use Rattle.std.specs.Int.{w32, from_be_bytes}
 use Rattle.std.proofs.lemmas.List.{take_at, drop_at, length-append}
 use Rattle.std.proofs.lemmas.Nat.{from_be_bytes-to_be_bytes_4}
 use Rattle.opcode_codec.specs.DataPacket.{DataForm, IsData, data_head, data_packet, three_bytes}
-use Rattle.sealed_packet.specs.SealedPacket.{peer_in}
+use Rattle.sealed_packet.specs.SealedPacket.{id_in, peer_in}
 
 -- what the reading of a packet rests on
 pub record IsReadable (f : DataForm) : Type 0 where
@@ -15,10 +15,6 @@ pub record IsReadable (f : DataForm) : Type 0 where
 -- what has a spelling is readable
 pub readable : (f : DataForm) → IsData f → IsReadable f
 readable f fits = record { peer = fits.peer; id = fits.id; tag = fits.tag }
-
--- the packet id that stands in a data packet, behind the peer id
-abbrev pub id_in : List ℕ → ℕ
-id_in datagram = from_be_bytes w32 (take 4 (drop 4 datagram))
 
 -- a peer id of 24 bits is read from its three bytes
 peer_again : (peer : ℕ) → peer < 2 ^ 24 → from_be_bytes w32 (0 ∷ three_bytes peer) ≡ peer
