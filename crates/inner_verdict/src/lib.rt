@@ -2,8 +2,8 @@
 #![tactic(auto)]
 
 ghost use Rattle.std.specs.Prelude.{◌≡◌, ◌+◌, ◌*◌, ◌≤◌, length};
-ghost use Rattle.route_table.specs.Owner.{owner};
-ghost use Rattle.inner_verdict.specs.Verdict.{verdict, is_group, is_owned_by, routed, sourced};
+ghost use Rattle.route_table.specs.Owner.{is_owned_by, owner};
+ghost use Rattle.inner_verdict.specs.Verdict.{verdict, is_group, routed, sourced};
 
 use ip_packets::Inner;
 use route_table::RouteTable;
