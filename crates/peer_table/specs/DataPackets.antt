@@ -35,9 +35,9 @@ abbrev pub implicit_bytes : List ℕ → List ℕ
 implicit_bytes half = take 8 (drop 64 half)
 
 -- the data packet in which an end of this role seals an inner packet: key id, peer id, packet id
-unfoldable pub sealed_under : Role → Keys → ℕ → ℕ → ℕ → List ℕ → List ℕ
-sealed_under role k kid peer id inner =
-    packet (gcm (cipher_key k.cipher (half_of role k.block))) (implicit_bytes (half_of role k.block)) kid peer id inner
+unfoldable pub sealed_under : Role → Keys → ℕ → ℕ → List ℕ → List ℕ
+sealed_under role k kid id inner =
+    packet (gcm (cipher_key k.cipher (half_of role k.block))) (implicit_bytes (half_of role k.block)) kid k.peer_id id inner
 
 -- the packet id and the inner packet to which a datagram of an end of this role opens
 unfoldable pub opened_under : Role → Keys → ℕ → List ℕ → Option (ℕ × List ℕ)
@@ -55,19 +55,19 @@ abbrev pub with_sealed : ℕ → Peer → Peer
 with_sealed n p = record p { sessions = changed_at n (λ s. record s { sealed = s.sealed + 1 }) p.sessions }
 
 -- under these keys, with the next packet id of the session
-abbrev pub sealed_by : Peer → ℕ → List ℕ → ℕ → Session → Option Keys → Bool → Outcome (Result (List ℕ) Spent)
-sealed_by p peer inner n s (Some k) false =
-    answered (with_sealed n p) (Ok (sealed_under p.role k (kid_of n) peer (s.sealed + 1) inner))
-sealed_by p peer inner n s keys spent = answered p (Err (record {}))
+abbrev pub sealed_by : Peer → List ℕ → ℕ → Session → Option Keys → Bool → Outcome (Result (List ℕ) Spent)
+sealed_by p inner n s (Some k) false = answered (with_sealed n p) (Ok (sealed_under p.role k (kid_of n) (s.sealed + 1) inner))
+sealed_by p inner n s keys spent = answered p (Err (record {}))
 
 -- in the session of this number; before there are keys nothing is sealed
-abbrev pub sealed_in : Peer → ℕ → List ℕ → Option ℕ → Option Session → Outcome (Result (List ℕ) Spent)
-sealed_in p peer inner (Some n) (Some s) = sealed_by p peer inner n s (keys_of s.stage) (ids_are_spent s)
-sealed_in p peer inner n s = answered p (Err (record {}))
+abbrev pub sealed_in : Peer → List ℕ → Option ℕ → Option Session → Outcome (Result (List ℕ) Spent)
+sealed_in p inner (Some n) (Some s) = sealed_by p inner n s (keys_of s.stage) (ids_are_spent s)
+sealed_in p inner n s = answered p (Err (record {}))
 
--- an inner packet is sealed under the newest usable keys with this peer id and the next packet id; spent exactly where that id would pass the last one
-unfoldable pub sealed_to : ℕ → List ℕ → Peer → Outcome (Result (List ℕ) Spent)
-sealed_to peer inner p = sealed_in p peer inner (newest_usable p.sessions) (session_at p.sessions (newest_usable p.sessions))
+-- an inner packet is sealed under the newest usable keys, with their peer id and the next packet id; spent exactly where that id would pass
+-- the last one
+unfoldable pub sealed_to : List ℕ → Peer → Outcome (Result (List ℕ) Spent)
+sealed_to inner p = sealed_in p inner (newest_usable p.sessions) (session_at p.sessions (newest_usable p.sessions))
 
 -- ---- opening
 

@@ -8,6 +8,8 @@ use Rattle.key_method2.specs.declared.message.Km2.{Km2}
 use Rattle.key_method2.specs.declared.message.Km2Read.{Km2Read}
 use Rattle.key_method2.specs.declared.message.Km2Read.TheVariants.{Whole, More, Bad}
 use Rattle.key_method2.specs.Reading.{reading}
+use Rattle.vpn_links.specs.declared.events.Kind.{Kind}
+use Rattle.vpn_links.specs.declared.events.Kind.TheVariants.{EngineText, EnginePlain, EngineUp, EngineDown}
 use Rattle.control_link.specs.Calls as link
 use Rattle.peer_table.specs.declared.outcomes.Turn.{Turn}
 use Rattle.peer_table.specs.declared.outcomes.Turn.TheVariants.{Going, Ignored, Named, Exchange, Over}
@@ -134,3 +136,34 @@ name_at n name p (Some s) = name_in n name p s.stage
 -- the engine has checked the other end, in the session of this number, and gives its common name
 unfoldable pub name_came : ℕ → List ℕ → Peer → Outcome Turn
 name_came n name p = name_at n name p (slice_get p.sessions n)
+
+-- ---- any answer
+
+-- the connection of an engine answer
+abbrev pub conn_in : Kind → Option Conn
+conn_in (EngineText conn bytes) = Some conn
+conn_in (EnginePlain conn bytes) = Some conn
+conn_in (EngineUp conn name) = Some conn
+conn_in (EngineDown conn) = Some conn
+conn_in kind = None
+
+-- the open session that it is for
+abbrev pub session_on : Option Conn → Peer → Option ℕ
+session_on None p = None
+session_on (Some conn) p = open_with conn p
+
+-- it comes in the session of this number; that the engine is down the owner judges alone
+abbrev pub answer_in : Kind → ℕ → ℕ → Peer → Outcome Turn
+answer_in (EngineText conn bytes) n now p = text_came n bytes now p
+answer_in (EnginePlain conn bytes) n now p = plain_came n bytes p
+answer_in (EngineUp conn name) n now p = name_came n name p
+answer_in kind n now p = answered p Going
+
+-- the same, where there is such a session
+abbrev pub answer_on : Kind → ℕ → Peer → Option ℕ → Outcome Turn
+answer_on kind now p None = answered p Going
+answer_on kind now p (Some n) = answer_in kind n now p
+
+-- the engine has answered on a connection
+unfoldable pub engine_came : Kind → ℕ → Peer → Outcome Turn
+engine_came kind now p = answer_on kind now p (session_on (conn_in kind) p)

@@ -96,11 +96,11 @@ writing bytes None = []
 writing bytes (Some s) = Writes s.link.conn bytes ∷ []
 
 -- with a cipher the server's message is written and the session has keys; with none the client ends
-abbrev pub exchanged_with : Peer → Source → Km2 → ℕ → Option Cipher → Outcome Turn
-exchanged_with p own message used None = answered p (Over NoCipher)
-exchanged_with p own message used (Some cipher) = at_most_two (record {
+abbrev pub exchanged_with : ℕ → Peer → Source → Km2 → ℕ → Option Cipher → Outcome Turn
+exchanged_with peer_id p own message used None = answered p (Over NoCipher)
+exchanged_with peer_id p own message used (Some cipher) = at_most_two (record {
   peer = record (with_keys (newest p.sessions)
-      (record { block = block_of message.source own (remote_of p).0 p.envelope.own.0; cipher = cipher }) used p)
+      (record { block = block_of message.source own (remote_of p).0 p.envelope.own.0; cipher = cipher; peer_id = peer_id }) used p)
       { asks = asks_with (newest p.sessions) message.info p };
   doings = writing (server_message own) (slice_get p.sessions (newest p.sessions));
   datagrams = [];
@@ -108,13 +108,13 @@ exchanged_with p own message used (Some cipher) = at_most_two (record {
 })
 
 -- nothing changes where the newest session is not prepared
-abbrev pub exchanged_from : Peer → Policy → Source → Option (Km2 × ℕ) → Outcome Turn
-exchanged_from p policy own None = answered p Going
-exchanged_from p policy own (Some message) = exchanged_with p own message.0 message.1 (chosen policy message.0.info)
+abbrev pub exchanged_from : Policy → ℕ → Peer → Source → Option (Km2 × ℕ) → Outcome Turn
+exchanged_from policy peer_id p own None = answered p Going
+exchanged_from policy peer_id p own (Some message) = exchanged_with peer_id p own message.0 message.1 (chosen policy message.0.info)
 
--- the key exchange of the newest session, where it is prepared
-unfoldable pub exchanged : Policy → Draw → Peer → Outcome Turn
-exchanged policy draw p = exchanged_from p policy (server_source draw) (prepared p)
+-- the key exchange of the newest session, where it is prepared; what is sealed under its keys carries this peer id
+unfoldable pub exchanged : Policy → ℕ → Draw → Peer → Outcome Turn
+exchanged policy peer_id draw p = exchanged_from policy peer_id p (server_source draw) (prepared p)
 
 -- the cipher of a session with keys
 abbrev pub cipher_in : Option Session → Option Cipher

@@ -10,10 +10,12 @@ use Rattle.packet_ids.specs.Freshness.{History, begun}
 use Rattle.control_link.specs.Links.{Link, link_begun}
 use Rattle.peer_table.specs.Places.{last_place}
 
--- the keys of a session: the block of 256 bytes that they are cut from, and the cipher that they are for
+-- the keys of a session: the block of 256 bytes that they are cut from, the cipher that they are for, and the peer id that stands in
+-- what is sealed under them
 pub record Keys : Type 0 where
   pub block : List ℕ
   pub cipher : Cipher
+  pub peer_id : ℕ
 
 -- how far the negotiation of a key session has come: it began, the other end's name is known, it has keys
 pub data Stage : Type 0 where

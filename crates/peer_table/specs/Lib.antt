@@ -7,3 +7,4 @@ pub mod Exchange
 pub mod DataPackets
 pub mod Time
 pub mod Naming
+pub mod Outboxes

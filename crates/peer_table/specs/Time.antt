@@ -21,6 +21,10 @@ pub record Ticking : Type 0 where
   pub finished : Bool
   pub idle : Bool
 
+-- the same from its parts
+abbrev pub ticking : ℕ → Conn → Bool → Bool → Ticking
+ticking at next_conn finished idle = record { at = at; next_conn = next_conn; finished = finished; idle = idle }
+
 -- at least so many seconds have passed since a session began
 abbrev pub began_before : ℕ → ℕ → Option Session → Bool
 began_before seconds at None = false

@@ -2,6 +2,8 @@
 //! which a core knows a client's session. There is no code here but what these need.
 #![tactic(auto)]
 
+mod client_session;
 mod outcomes;
 
+pub use client_session::{ClientSession, Message};
 pub use outcomes::{Refused, SessionFault, Turn};

@@ -2,10 +2,11 @@
 use Rattle.std.specs.Prelude.{ℕ, suc, ◌+◌, ◌-◌, ◌^◌, min, List, [], ◌∷◌, ◌++◌, map}
 use Rattle.vpn_base.specs.declared.address.Addr.{Addr}
 use Rattle.vpn_base.specs.declared.names.Role.TheVariants.{Server}
-use Rattle.vpn_links.specs.Actions.{Action, Datagram, EngineClose, EngineOpen, EnginePut, EngineWrite, Report, on_wire}
+use Rattle.vpn_links.specs.Actions.{Action, Datagram, Report, on_wire}
 use Rattle.vpn_links.specs.declared.notes.Note.{Note}
 use Rattle.peer_table.specs.Places.{changed_at}
-use Rattle.peer_table.specs.Peer.{Closes, Doing, Opens, Outcome, Puts, Writes}
+use Rattle.peer_table.specs.Outboxes.{actions_of}
+use Rattle.peer_table.specs.Peer.{Doing, Opens, Outcome}
 use Rattle.server_table.specs.Table.{Client, Table}
 
 -- a control datagram, with the number of the client that it goes to
@@ -49,13 +50,6 @@ counted count more = min (count + more) (2 ^ 64 - 1)
 
 -- ---- what a client's session did
 
--- what it did as an effect
-abbrev pub action_of : Doing → Action
-action_of (Opens conn) = EngineOpen conn Server
-action_of (Puts conn bytes) = EnginePut conn bytes
-action_of (Writes conn bytes) = EngineWrite conn bytes
-action_of (Closes conn) = EngineClose conn
-
 -- how many connections it opened
 abbrev pub opened_by : List Doing → ℕ
 opened_by [] = 0
@@ -70,6 +64,6 @@ staged_to n to datagrams = map (λ bytes. record { number = n; datagram = record
 abbrev pub acted : {A : Type 0} → ℕ → Addr → Outcome A → Course → Course
 acted n to o c = record {
   table = record (with_client n (λ x. record x { session = o.peer }) c.table) { connections = c.table.connections + opened_by o.doings };
-  effects = c.effects ++ map action_of o.doings;
+  effects = c.effects ++ actions_of Server o.doings;
   staged = c.staged ++ staged_to n to o.datagrams;
 }

@@ -1,16 +1,18 @@
 -- A client ends.
-use Rattle.std.specs.Prelude.{ℕ, ◌==◌, not, false, List, [], ◌∷◌, ◌++◌, map, codes, Option, Some, None, filter}
+use Rattle.std.specs.Prelude.{ℕ, ◌==◌, not, false, List, [], ◌∷◌, ◌++◌, codes, Option, Some, None, filter}
 use Rattle.std.specs.Fmt.{decimal}
 use Rattle.vpn_base.specs.declared.names.Cause.{Cause}
+use Rattle.vpn_base.specs.declared.names.Role.TheVariants.{Server}
 use Rattle.vpn_links.specs.Actions.{Action, Report, Say}
 use Rattle.vpn_links.specs.declared.notes.Note.TheVariants.{Ended}
 use Rattle.peer_table.specs.declared.outcomes.Turn.{Turn}
 use Rattle.peer_table.specs.declared.outcomes.Turn.TheVariants.{Over}
+use Rattle.peer_table.specs.Outboxes.{actions_of}
 use Rattle.peer_table.specs.Time.{all_closed, closings}
 use Rattle.route_table.specs.Learned.{without_client}
 use Rattle.server_table.specs.Table.{Client, Established, Table}
 use Rattle.server_table.specs.Lookups.{cid, client_here}
-use Rattle.server_table.specs.Courses.{Course, Staged, action_of, with_client}
+use Rattle.server_table.specs.Courses.{Course, Staged, with_client}
 
 -- what a manager is told of the end of a client that was established
 abbrev pub disconnect_line : ℕ → Option Established → List Action
@@ -20,7 +22,7 @@ disconnect_line n (Some e) = Say (codes ">CLIENT:DISCONNECT," ++ decimal n) ∷ 
 -- the note with its cause, that line, and each open connection closed
 abbrev pub ending_effects : ℕ → Cause → Client → List Action
 ending_effects n cause x =
-    Report (Ended (cid n) cause) ∷ disconnect_line n x.established ++ map action_of (closings x.session.sessions)
+    Report (Ended (cid n) cause) ∷ disconnect_line n x.established ++ actions_of Server (closings x.session.sessions)
 
 -- a client that has ended: it is not here, and its sessions are closed
 abbrev pub gone : Client → Client

@@ -6,6 +6,8 @@ use Rattle.vpn_base.specs.declared.names.Cid.{Cid}
 use Rattle.vpn_base.specs.declared.names.Conn.{Conn}
 use Rattle.vpn_base.specs.declared.names.Draw.{Draw}
 use Rattle.vpn_links.specs.Actions.{Ask}
+use Rattle.vpn_links.specs.declared.events.Kind.{Kind}
+use Rattle.vpn_links.specs.declared.events.Kind.TheVariants.{EngineText}
 use Rattle.vpn_links.specs.declared.events.FileAnswer.{FileAnswer}
 use Rattle.vpn_links.specs.declared.events.FileAnswer.TheVariants.{Held, Missing, Failed}
 use Rattle.vpn_links.specs.declared.notes.Note.TheVariants as notes
@@ -14,7 +16,7 @@ use Rattle.ccd_files.specs.declared.client_file.Ccd.{Ccd}
 use Rattle.ccd_files.specs.ClientFile.{ccd, no_ccd}
 use Rattle.peer_table.specs.declared.outcomes.Turn.{Turn}
 use Rattle.peer_table.specs.declared.outcomes.Turn.TheVariants.{Going, Ignored, Named, Exchange, Over}
-use Rattle.peer_table.specs.EngineAnswers.{name_came, open_with, plain_came, text_came}
+use Rattle.peer_table.specs.EngineAnswers.{engine_came}
 use Rattle.peer_table.specs.Exchange.{most_unread}
 use Rattle.peer_table.specs.Peer.{Outcome}
 use Rattle.server_table.specs.Table.{Awaited, Client, FileState, Known, Unasked}
@@ -92,34 +94,33 @@ engine_acted draw n x c o = gone_on draw n (acted n x.address o c) o.answer
 abbrev pub text_acted : ℕ → Client → Course → Outcome Turn → Course
 text_acted n x c o = turned n o.answer (acted n x.address o c)
 
--- what the engine says
-pub data Answer : Type 0 where
-  IsText : List ℕ → Answer
-  IsPlain : List ℕ → Answer
-  IsUp : List ℕ → Answer
-  IsDown : Answer
-
--- in the session of this number
-abbrev pub answer_in : Draw → ℕ → Client → Course → Answer → Option ℕ → Course
-answer_in draw n x c answer None = c
-answer_in draw n x c (IsText bytes) (Some k) = text_acted n x c (text_came k bytes c.table.moment x.session)
-answer_in draw n x c (IsPlain bytes) (Some k) = engine_acted draw n x c (plain_came k bytes x.session)
-answer_in draw n x c (IsUp name) (Some k) = engine_acted draw n x c (name_came k name x.session)
-answer_in draw n x c IsDown (Some k) = ended n EngineDown c
+-- what follows, by what the engine has
+abbrev pub answer_acted : Draw → ℕ → Client → Course → Kind → Outcome Turn → Course
+answer_acted draw n x c (EngineText conn bytes) o = text_acted n x c o
+answer_acted draw n x c kind o = engine_acted draw n x c o
 
 -- of the client of this number
-abbrev pub answer_for : Draw → Conn → Answer → ℕ → Course → Option Client → Course
-answer_for draw conn answer n c None = c
-answer_for draw conn answer n c (Some x) = answer_in draw n x c answer (open_with conn x.session)
+abbrev pub answer_for : Draw → Kind → ℕ → Course → Option Client → Course
+answer_for draw kind n c None = c
+answer_for draw kind n c (Some x) = answer_acted draw n x c kind (engine_came kind c.table.moment x.session)
 
 -- of the client that has the connection
-abbrev pub answer_at : Draw → Conn → Answer → Course → Option ℕ → Course
-answer_at draw conn answer c None = reported (notes.UnknownConn conn) c
-answer_at draw conn answer c (Some n) = answer_for draw conn answer n c (client_here c.table n)
+abbrev pub answer_at : Draw → Conn → Kind → Course → Option ℕ → Course
+answer_at draw conn kind c None = reported (notes.UnknownConn conn) c
+answer_at draw conn kind c (Some n) = answer_for draw kind n c (client_here c.table n)
 
--- the engine has answered on a connection
-unfoldable pub engine_answered : Draw → Conn → Answer → Course → Course
-engine_answered draw conn answer c = answer_at draw conn answer c (by_connection c.table conn)
+-- the engine has text, plain text or a name on a connection
+unfoldable pub engine_answered : Draw → Conn → Kind → Course → Course
+engine_answered draw conn kind c = answer_at draw conn kind c (by_connection c.table conn)
+
+-- the connection is down at the client that has it
+abbrev pub down_at : Conn → Course → Option ℕ → Course
+down_at conn c None = reported (notes.UnknownConn conn) c
+down_at conn c (Some n) = ended n EngineDown c
+
+-- the engine says that a connection is down
+unfoldable pub engine_is_down : Conn → Course → Course
+engine_is_down conn c = down_at conn c (by_connection c.table conn)
 
 -- ---- files
 

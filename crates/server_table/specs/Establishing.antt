@@ -4,7 +4,6 @@ use Rattle.std.specs.Fmt.{decimal}
 use Rattle.vpn_base.specs.Address.{ip4_text}
 use Rattle.vpn_base.specs.declared.address.Ip4.{Ip4}
 use Rattle.vpn_base.specs.declared.names.Cause.TheVariants.{PoolEmpty, Replaced}
-use Rattle.vpn_base.specs.declared.names.Cid.{Cid}
 use Rattle.vpn_base.specs.declared.names.Cipher.{Cipher}
 use Rattle.vpn_base.specs.declared.names.Cipher.TheVariants.{Aes256Gcm}
 use Rattle.vpn_base.specs.declared.names.Conn.{Conn}
@@ -17,7 +16,7 @@ use Rattle.ovpn_config.specs.declared.settings.Settings.{Settings}
 use Rattle.push_options.specs.Options.{Plan, options_of}
 use Rattle.push_options.specs.Parts.{reply_parts}
 use Rattle.peer_table.specs.Exchange.{cipher_of}
-use Rattle.route_table.specs.Learned.{with_rows}
+use Rattle.route_table.specs.Learned.{rows_of, with_rows}
 use Rattle.server_table.specs.Table.{Awaited, Client, Established, FileState, Known, Table, Unasked}
 use Rattle.server_table.specs.Lookups.{cid, client_here, established_named, taken_addresses}
 use Rattle.server_table.specs.Courses.{Course, with_client}
@@ -107,10 +106,6 @@ host_route a = record { net = a; len = 32 }
 abbrev pub networks_of : Client → Ip4 → List Network
 networks_of x a = host_route a ∷ (ccd_in x.file).iroutes
 
--- as rows
-abbrev pub rows_of : ℕ → Client → Ip4 → List (Network × Cid)
-rows_of n x a = map (λ net. (net, cid n)) (networks_of x a)
-
 -- ---- what a manager is told
 
 -- a client is established
@@ -139,7 +134,7 @@ with_established a now x = record x { established = Some (record { address = a; 
 -- it has an address: its rows are added, the reply is written, a manager is told
 abbrev pub established_at : ℕ → Conn → Client → Course → Leased → Course
 established_at n conn x c a = record c {
-  table = record (with_client n (with_established a.0 c.table.moment) c.table) { routes = with_rows (rows_of n x a.0) c.table.routes };
+  table = record (with_client n (with_established a.0 c.table.moment) c.table) { routes = with_rows (rows_of (cid n) (networks_of x a.0)) c.table.routes };
   effects = c.effects ++ (reply c.table.settings x a conn ++ establishing_lines n x a.0);
 }
 

@@ -109,7 +109,7 @@ exchange_acted n x c o = exchange_made n (turned n o.answer (acted n x.address o
 -- it waits for the client's file
 abbrev pub exchange_with : Draw → ℕ → Client → Course → FileState → Course
 exchange_with draw n x c (Known file) =
-    exchange_acted n x c (exchanged (policy_with c.table.settings.ciphers (cipher_of x.session)) draw x.session)
+    exchange_acted n x c (exchanged (policy_with c.table.settings.ciphers (cipher_of x.session)) x.peer_id draw x.session)
 exchange_with draw n x c (Awaited name) = c
 exchange_with draw n x c Unasked = c
 

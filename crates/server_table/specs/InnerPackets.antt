@@ -1,13 +1,12 @@
 -- Where inner packets go: sealed to a client, or to the queue of the packet device; and which hosts are learned of them.
 use Rattle.std.specs.Prelude.{ℕ, ◌==◌, ◌&&◌, nat_le, not, Bool, true, false, List, [], ◌∷◌, ◌++◌, length, Option, Some, None, Result, Ok, Err}
-use Rattle.std.specs.List.{list_any}
 use Rattle.vpn_base.specs.declared.address.Ip4.{Ip4}
 use Rattle.vpn_links.specs.Actions.{Device, Wire}
 use Rattle.vpn_links.specs.declared.notes.Note.TheVariants.{KeySpent, NotLearned, QueueFull}
 use Rattle.packet_ids.specs.declared.sending.Spent.{Spent}
 use Rattle.peer_table.specs.Peer.{Outcome, Peer}
 use Rattle.peer_table.specs.DataPackets as session
-use Rattle.route_table.specs.Learned.{Host, with_host}
+use Rattle.route_table.specs.Learned.{is_learned, with_host}
 use Rattle.server_table.specs.Table.{Client, Established}
 use Rattle.server_table.specs.Lookups.{cid, client_here}
 use Rattle.server_table.specs.Courses.{Course, counted, did, reported, with_client}
@@ -35,7 +34,7 @@ sealed_with n x c o = sealed_as n x c o.peer o.answer
 -- a client that is not here owns nothing
 abbrev pub sealed_for : ℕ → List ℕ → Course → Option Client → Course
 sealed_for n inner c None = c
-sealed_for n inner c (Some x) = sealed_with n x c (session.sealed_to x.peer_id inner x.session)
+sealed_for n inner c (Some x) = sealed_with n x c (session.sealed_to inner x.session)
 
 -- an inner packet is sealed to the client of this number, under its newest usable keys
 unfoldable pub sealed_to : ℕ → List ℕ → Course → Course
@@ -72,10 +71,6 @@ abbrev pub is_own : Ip4 → Option Established → Bool
 is_own host None = false
 is_own host (Some e) = e.address.0 == host.0
 
--- whether a host was learned, and is learned still
-abbrev pub is_learned : Ip4 → List Host → Bool
-is_learned host hosts = list_any (λ (h : Host). h.0.0 == host.0) hosts
-
 -- whether the source of a client's packet is a host that is to be learned: it is not the client's own address
 abbrev pub is_host : Ip4 → Client → Bool
 is_host host x = not (is_own host x.established)
@@ -88,7 +83,7 @@ learned_if n host c false = record c { table = record c.table { routes = with_ho
 -- where it is to be learned
 abbrev pub learned_where : Bool → ℕ → Ip4 → Course → Bool → Course
 learned_where lacks n host c false = c
-learned_where lacks n host c true = learned_if n host c (lacks && not (is_learned host c.table.routes.learned))
+learned_where lacks n host c true = learned_if n host c (lacks && not (is_learned c.table.routes.learned host))
 
 -- whether a client's packet has a source that is to be learned
 abbrev pub is_host_of : Ip4 → Option Client → Bool

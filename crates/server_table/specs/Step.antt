@@ -16,7 +16,7 @@ use Rattle.server_table.specs.Courses.{Course, did, reported}
 use Rattle.server_table.specs.InnerPackets.{device_ready, sealed_to}
 use Rattle.server_table.specs.DataDatagrams.{FromLine, data_came}
 use Rattle.server_table.specs.ControlDatagrams.{control_arrived, first_of}
-use Rattle.server_table.specs.Engine.{IsDown, IsPlain, IsText, IsUp, engine_answered, file_came}
+use Rattle.server_table.specs.Engine.{engine_answered, engine_is_down, file_came}
 use Rattle.server_table.specs.Time.{tick}
 
 -- ---- a datagram
@@ -66,10 +66,10 @@ halted c = did Stop (record c { table = record c.table { is_stopped = true } })
 -- what comes; `lacks` says that there is no memory to learn a host
 unfoldable pub came : Bool → Draw → Kind → Course → Course
 came lacks draw (Datagram from bytes) c = datagram_as (record { from = from; bytes = bytes; lacks = lacks }) draw c (packet_of bytes)
-came lacks draw (EngineText conn bytes) c = engine_answered draw conn (IsText bytes) c
-came lacks draw (EnginePlain conn bytes) c = engine_answered draw conn (IsPlain bytes) c
-came lacks draw (EngineUp conn name) c = engine_answered draw conn (IsUp name) c
-came lacks draw (EngineDown conn) c = engine_answered draw conn IsDown c
+came lacks draw (EngineText conn bytes) c = engine_answered draw conn (EngineText conn bytes) c
+came lacks draw (EnginePlain conn bytes) c = engine_answered draw conn (EnginePlain conn bytes) c
+came lacks draw (EngineUp conn name) c = engine_answered draw conn (EngineUp conn name) c
+came lacks draw (EngineDown conn) c = engine_is_down conn c
 came lacks draw (DeviceIn bytes) c = device_came bytes c
 came lacks draw DeviceReady c = device_ready c
 came lacks draw (File id answer) c = file_came draw id answer c
