@@ -1,5 +1,5 @@
 -- A control packet comes to a client's session.
-use Rattle.std.specs.Prelude.{ℕ, ◌%◌, ◌==◌, ◌&&◌, Bool, true, false, List, [], ◌∷◌, ◌++◌, length, Option, Some, None, slice_get, Result, Ok, Err, if◌then◌else◌}
+use Rattle.std.specs.Prelude.{ℕ, zero, suc, ◌%◌, ◌==◌, ◌&&◌, Bool, true, false, List, [], ◌∷◌, ◌++◌, length, Option, Some, None, slice_get, Result, Ok, Err}
 use Rattle.std.specs.Option.{option_or}
 use Rattle.vpn_base.specs.declared.names.Conn.{Conn}
 use Rattle.vpn_base.specs.declared.names.Freshness.{Freshness}
@@ -22,13 +22,13 @@ use Rattle.peer_table.specs.KeySessions.{Session, has_keys, kid_of, live_with, n
 use Rattle.peer_table.specs.Peer.{Doing, Opens, Outcome, Peer, Puts, answered, done_first, turn_of, with_link}
 
 -- a control packet that unwrapped and whose plain text was read, its moment, the number of the next engine connection, and whether
--- session 0 is finished: its client is established
+-- the client is established
 pub record Incoming : Type 0 where
   pub packet : Packet
   pub form : ControlForm
   pub moment : Moment
   pub next_conn : Conn
-  pub finished : Bool
+  pub established : Bool
 
 -- the key id in its first byte
 abbrev pub kid_in : Incoming → ℕ
@@ -62,20 +62,21 @@ abbrev pub is_first : Option ℕ → Bool
 is_first None = false
 is_first (Some id) = id == 0
 
--- a session with keys is finished, and session 0 once its client is established
+-- a session is finished once it has keys, and session 0 only once its client is established, which wants keys
 abbrev pub is_finished_as : Bool → ℕ → Option Session → Bool
-is_finished_as finished n None = false
-is_finished_as finished n (Some s) = if n == 0 then finished else has_keys s
+is_finished_as established n None = false
+is_finished_as established zero (Some s) = has_keys s && established
+is_finished_as established (suc n) (Some s) = has_keys s
 
 -- whether the newest session is finished
 unfoldable pub newest_is_finished : Bool → List Session → Bool
-newest_is_finished finished sessions = is_finished_as finished (newest sessions) (slice_get sessions (newest sessions))
+newest_is_finished established sessions = is_finished_as established (newest sessions) (slice_get sessions (newest sessions))
 
 -- whether it begins the next session: a soft reset with the next key id and packet id 0, where the newest session is finished
 abbrev pub begins_next : Peer → Incoming → Bool
 begins_next p i =
     is_soft_reset (opcode_of i.packet.first) && (kid_in i == kid_of (length p.sessions)) && is_first i.form.id
-    && newest_is_finished i.finished p.sessions
+    && newest_is_finished i.established p.sessions
 
 -- ---- taking it
 

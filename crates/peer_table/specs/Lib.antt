@@ -8,3 +8,4 @@ pub mod DataPackets
 pub mod Time
 pub mod Naming
 pub mod Outboxes
+pub mod Orderly

@@ -40,12 +40,12 @@ LeavesUnless (Err e) means session before after to p o = means session p × Hold
 
 -- a control packet as it is handed to a session
 abbrev pub incoming : Opened → ControlView → Conn → Bool → Moment → Incoming
-incoming o v next_conn finished moment = record {
+incoming o v next_conn established moment = record {
   packet = record { first = o.first; sid = o.sid.0; id = o.id; time = o.time; plain = o.plain.now };
   form = control_form v;
   moment = moment;
   next_conn = next_conn;
-  finished = finished;
+  established = established;
 }
 
 -- a call needs no more than this room, where the session was made ready for the event with so many effects and bytes

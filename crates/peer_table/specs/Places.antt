@@ -1,5 +1,5 @@
 -- Lists in which a number is a place, counted from 0.
-use Rattle.std.specs.Prelude.{ℕ, zero, suc, Bool, true, false, List, [], ◌∷◌, Option, Some, None, if◌then◌else◌}
+use Rattle.std.specs.Prelude.{ℕ, zero, suc, Bool, true, false, List, [], ◌∷◌, Option, Some, None}
 
 -- the first place, by whether the first item passes and by the first place among those behind it
 abbrev pub earlier : Bool → Option ℕ → Option ℕ
@@ -23,10 +23,15 @@ abbrev pub last_place : {X : Type 0} → (X → Bool) → List X → Option ℕ
 last_place passes [] = None
 last_place passes (x ∷ xs) = later (passes x) (last_place passes xs)
 
+-- a place before others, where its item passes
+abbrev pub before_if : Bool → ℕ → List ℕ → List ℕ
+before_if true n places = n ∷ places
+before_if false n places = places
+
 -- each place whose item passes, in order, where the first item stands at this place
 abbrev pub places_from : {X : Type 0} → (X → Bool) → ℕ → List X → List ℕ
 places_from passes n [] = []
-places_from passes n (x ∷ xs) = if passes x then n ∷ places_from passes (suc n) xs else places_from passes (suc n) xs
+places_from passes n (x ∷ xs) = before_if (passes x) n (places_from passes (suc n) xs)
 
 -- the list with the item at a place changed, and as it was where there is no such place
 abbrev pub changed_at : {X : Type 0} → ℕ → (X → X) → List X → List X

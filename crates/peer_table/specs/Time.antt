@@ -13,17 +13,17 @@ use Rattle.peer_table.specs.Peer.{Closes, Doing, Opens, Outcome, Peer, answered,
 use Rattle.peer_table.specs.ControlPackets.{newest_is_finished, with_next}
 use Rattle.peer_table.specs.Exchange.{closed_at, closing}
 
--- a moment at which time is looked at, the number of the next engine connection, whether session 0 is finished (its client is
--- established), and whether the other end was silent for too long, by the rule of this end's role
+-- a moment at which time is looked at, the number of the next engine connection, whether its client is
+-- established, and whether the other end was silent for too long, by the rule of this end's role
 pub record Ticking : Type 0 where
   pub at : ℕ
   pub next_conn : Conn
-  pub finished : Bool
+  pub established : Bool
   pub idle : Bool
 
 -- the same from its parts
 abbrev pub ticking : ℕ → Conn → Bool → Bool → Ticking
-ticking at next_conn finished idle = record { at = at; next_conn = next_conn; finished = finished; idle = idle }
+ticking at next_conn established idle = record { at = at; next_conn = next_conn; established = established; idle = idle }
 
 -- at least so many seconds have passed since a session began
 abbrev pub began_before : ℕ → ℕ → Option Session → Bool
@@ -36,7 +36,7 @@ newest_session p = slice_get p.sessions (newest p.sessions)
 
 -- whether the newest session had its time to finish and did not
 abbrev pub is_late : Peer → Ticking → Bool
-is_late p t = not (newest_is_finished t.finished p.sessions) && began_before p.timers.hand t.at (newest_session p)
+is_late p t = not (newest_is_finished t.established p.sessions) && began_before p.timers.hand t.at (newest_session p)
 
 -- ---- what is due is sent again
 
@@ -92,7 +92,7 @@ is_worn timers at (Some s) =
 
 -- whether the next session is to begin: the newest one is finished, and the client established
 abbrev pub renews : Peer → Ticking → Bool
-renews p t = newest_is_finished t.finished p.sessions && t.finished && is_worn p.timers t.at (newest_session p)
+renews p t = newest_is_finished t.established p.sessions && t.established && is_worn p.timers t.at (newest_session p)
 
 -- the next session begins: its connection is opened, its soft reset sent
 abbrev pub renewed : Ticking → Bool → Outcome Turn → Outcome Turn

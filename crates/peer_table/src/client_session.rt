@@ -76,8 +76,8 @@ pub trait ClientSession {
         ensures first { IfOk result (λ s. count s ≡ 1) };
 
     /// Takes the memory that the calls for an event may need beside the outbox, and answers for how many
-    /// effects and bytes the outbox has to have room. `finished` says that key session 0 is finished.
-    fn ready(&mut self, kind: &Kind, finished: bool) -> Result<(usize, usize), NoMemory>
+    /// effects and bytes the outbox has to have room. `established` says that the client is established.
+    fn ready(&mut self, kind: &Kind, established: bool) -> Result<(usize, usize), NoMemory>
         requires { count self.old < 2 ^ 64 - 1 }
         ensures same { (p : Peer) → stands self.old p → stands self.new p }
         ensures ready { IfOk result (λ room. is_ready self.new kind.now room.0 room.1) }
@@ -92,16 +92,16 @@ pub trait ClientSession {
         view: &ControlView<'_>,
         to: Addr,
         next_conn: Conn,
-        finished: bool,
+        established: bool,
         now: Moment,
         out: &mut Outbox,
     ) -> Result<Result<Turn, Refused>, NoMemory>
         requires acks { view.now.acks.count ≤ 8 }
         requires few { count self.old < 2 ^ 64 - 1 }
         ensures left { (p : Peer) → stands self.old p →
-            LeavesUnless result stands self.new out.old out.new to p (control_came p (incoming opened.now view.now next_conn finished now)) }
+            LeavesUnless result stands self.new out.old out.new to p (control_came p (incoming opened.now view.now next_conn established now)) }
         ensures answer { IfOk result (λ answer. (p : Peer) → stands self.old p →
-            answer ≡ (control_came p (incoming opened.now view.now next_conn finished now)).answer) }
+            answer ≡ (control_came p (incoming opened.now view.now next_conn established now)).answer) }
         ensures fits { (from : Addr) (bytes : List ℕ) (effects room : ℕ) → is_ready self.old (Datagram from bytes) effects room →
             length view.now.payload.now ≤ length bytes → HasRoom out.old effects room → IsOk result }
         ensures count { count self.new ≤ count self.old + 1 };
@@ -150,12 +150,12 @@ pub trait ClientSession {
         ensures passed { (p : Peer) → stands self.old p → stands self.new (after_message p) }
         ensures count { count self.new ≡ count self.old };
 
-    /// Time has passed. `finished` says that the client is established, `idle` that nothing fresh came of it
+    /// Time has passed. `established` says that the client is, `idle` that nothing fresh came of it
     /// for too long.
     fn on_tick(
         &mut self,
         next_conn: Conn,
-        finished: bool,
+        established: bool,
         idle: bool,
         to: Addr,
         now: Moment,
@@ -163,8 +163,8 @@ pub trait ClientSession {
     ) -> Result<Turn, NoMemory>
         requires { count self.old < 2 ^ 64 - 1 }
         ensures left { (p : Peer) → stands self.old p →
-            LeavesUnless result stands self.new out.old out.new to p (ticked (ticking now.0 next_conn finished idle) p) }
-        ensures answer { IfOk result (λ turn. (p : Peer) → stands self.old p → turn ≡ (ticked (ticking now.0 next_conn finished idle) p).answer) }
+            LeavesUnless result stands self.new out.old out.new to p (ticked (ticking now.0 next_conn established idle) p) }
+        ensures answer { IfOk result (λ turn. (p : Peer) → stands self.old p → turn ≡ (ticked (ticking now.0 next_conn established idle) p).answer) }
         ensures fits { (effects room : ℕ) → is_ready self.old Kind.Tick effects room → HasRoom out.old effects room → IsOk result }
         ensures count { count self.new ≤ count self.old + 1 };
 

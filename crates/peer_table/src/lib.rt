@@ -3,7 +3,9 @@
 #![tactic(auto)]
 
 mod client_session;
+mod laws;
 mod outcomes;
 
 pub use client_session::{ClientSession, Message};
+pub use laws::{at_most_three_are_open, key_sessions_are_orderly};
 pub use outcomes::{Refused, SessionFault, Turn};

@@ -42,7 +42,7 @@ incoming r c x = record {
   form = r.form;
   moment = record { 0 = c.table.moment };
   next_conn = record { 0 = c.table.connections };
-  finished = is_some x.established;
+  established = is_some x.established;
 }
 
 -- something fresh has come of a client

@@ -43,7 +43,7 @@ abbrev pub ticking : Table → Client → Ticking
 ticking t x = record {
   at = t.moment;
   next_conn = record { 0 = t.connections };
-  finished = is_some x.established;
+  established = is_some x.established;
   idle = is_idle t.settings.keepalive t.moment x;
 }
 
