@@ -13,7 +13,7 @@ use Rattle.peer_table.specs.Peer.{Outcome, Peer, with_link, gone_on, remote_of}
 use Rattle.packet_ids.specs.LongFreshness.{long_freshness}
 use Rattle.opcode_codec.specs.declared.opcodes.Opcode.TheVariants.{SoftReset}
 use Rattle.control_link.specs.Runs.{read_here}
-use Rattle.peer_table.specs.ControlPackets.{Incoming, most_in_order, sender, begins_next, begun_by, control_came, judged, kid_in, newest_is_finished, placed, remote_fixed, taken_by, with_next}
+use Rattle.peer_table.specs.ControlPackets.{Incoming, next_session, most_in_order, sender, begins_next, begun_by, control_came, judged, kid_in, newest_is_finished, placed, taken_by, with_next}
 use Rattle.std.specs.Prelude.{if◌then◌else◌}
 use Rattle.std.specs.Str.{bytes_eq}
 use Rattle.std.proofs.lemmas.Bool.{false≢true}
@@ -34,10 +34,10 @@ use Rattle.vpn_base.specs.declared.names.Policy.{Policy}
 use Rattle.packet_ids.specs.Freshness.{freshness, recorded}
 use Rattle.peer_table.specs.KeySessions.{Keys, keys_of, kid_of, newest, newest_usable, session_at, usable_with}
 use Rattle.peer_table.specs.Peer.{other}
-use Rattle.peer_table.specs.EngineAnswers.{prepared}
+use Rattle.peer_table.specs.EngineAnswers.{prepared_message}
 use Rattle.peer_table.specs.DataPackets as packets
 use Rattle.peer_table.specs.DataPackets.{data_came, ids_are_spent, opened_as, opened_by, opened_in, opened_judged, opened_under, sealed_by, sealed_in, sealed_to}
-use Rattle.peer_table.specs.Exchange.{after_message, after_message_in, at_most_two, chosen, exchanged, exchanged_from, exchanged_with, is_open_keyed, message_read, oldest_of, server_source, third_closed, waiting_in}
+use Rattle.peer_table.specs.Exchange.{after_message, after_message_in, at_most_two, chosen, exchanged, exchanged_from, exchanged_with, is_open_keyed, message_read, oldest_of, server_source, session_closed, waiting_in}
 use Rattle.peer_table.specs.Places.{places_from}
 use Rattle.peer_table.proofs.Closing.{IsOneTooMany, after_oldest, changed_three, oldest_closed}
 use Rattle.peer_table.specs.Orderly.{IsOrderlyFrom, IsOrderlyOrFixed, IsOrderly}
@@ -66,10 +66,14 @@ gone_on_orderly n o so_far is = same_from refl refl (linked n o.link so_far.peer
 
 -- ---- a control packet
 
-taken_orderly : {r : Option Sid} (p : Peer) (i : Incoming) (n : ℕ) (s : Option Session) → IsOrderlyFrom r p → IsOrderlyFrom r (taken_by p i n s).peer
-taken_orderly p i n None is = is
+fixed : {r : Option Sid} (i : Incoming) (p : Peer) → IsOrderlyFrom r p → IsOrderlyFrom (option_or r (Some (sender i))) (record p { remote = option_or p.remote (Some (sender i)) })
+fixed i p is = record { orderly = is.orderly; is_remote = ap (λ (o : Option Sid). option_or o (Some (sender i))) is.is_remote }
+
+taken_orderly : {r : Option Sid} (p : Peer) (i : Incoming) (n : ℕ) (s : Option Session) → IsOrderlyFrom r p → IsOrderlyOrFixed r i (taken_by p i n s).peer
+taken_orderly p i n None is = inl (same_from refl refl is)
 taken_orderly p i n (Some s) is =
-    same_from refl refl (linked n (read_here most_in_order (link.received s.link p.envelope i.form (sender i) i.moment.0).link) p is)
+    let l = read_here most_in_order (link.received s.link p.envelope i.form (sender i) i.moment.0).link in
+    inr (same_from refl refl (fixed i (with_link n l p) (linked n l p is)))
 
 -- the next session begins
 pub next_orderly : {r : Option Sid} (conn : Conn) (now : ℕ) (p : Peer) → last_has_keys p.sessions ≡ true → IsOrderlyFrom r p → IsOrderlyFrom r (with_next conn now p)
@@ -81,21 +85,18 @@ next_orderly conn now p last is = record {
 finished_of : (p : Peer) (i : Incoming) → begins_next p i ≡ true → newest_is_finished i.established p.sessions ≡ true
 finished_of p i is = (both is).1
 
-begun_orderly : {r : Option Sid} (p : Peer) (i : Incoming) (b : Bool) → begins_next p i ≡ b → IsOrderlyFrom r p → IsOrderlyFrom r (begun_by p i b).peer
-begun_orderly p i false e is = same_from refl refl is
+begun_orderly : {r : Option Sid} (p : Peer) (i : Incoming) (b : Bool) → begins_next p i ≡ b → IsOrderlyFrom r p → IsOrderlyOrFixed r i (begun_by p i b).peer
+begun_orderly p i false e is = inl (same_from refl refl is)
 begun_orderly p i true e is =
-    taken_orderly (with_next i.next_conn i.moment.0 p) i (length p.sessions) (Some (session_begun p.timers i.next_conn (length p.sessions) SoftReset i.moment.0))
+    taken_orderly (with_next i.next_conn i.moment.0 p) i (length p.sessions) (Some (next_session i.next_conn i.moment.0 p))
     (next_orderly i.next_conn i.moment.0 p (newest_has_keys i.established p.sessions (finished_of p i e)) is)
 
-placed_orderly : {r : Option Sid} (p : Peer) (i : Incoming) (n : Option ℕ) → IsOrderlyFrom r p → IsOrderlyFrom r (placed p i n).peer
+placed_orderly : {r : Option Sid} (p : Peer) (i : Incoming) (n : Option ℕ) → IsOrderlyFrom r p → IsOrderlyOrFixed r i (placed p i n).peer
 placed_orderly p i (Some n) is = taken_orderly p i n (slice_get p.sessions n) is
 placed_orderly p i None is = begun_orderly p i (begins_next p i) refl is
 
-fixed : {r : Option Sid} (i : Incoming) (p : Peer) → IsOrderlyFrom r p → IsOrderlyFrom (option_or r (Some (sender i))) (remote_fixed i p)
-fixed i p is = record { orderly = is.orderly; is_remote = ap (λ (o : Option Sid). option_or o (Some (sender i))) is.is_remote }
-
 judged_orderly : {r : Option Sid} (p : Peer) (i : Incoming) (f : Freshness) → IsOrderlyFrom r p → IsOrderlyOrFixed r i (judged p i f).peer
-judged_orderly p i Fresh is = inr (placed_orderly (remote_fixed i p) i (live_with p.timers i.moment.0 p.sessions (kid_in i)) (fixed i p is))
+judged_orderly p i Fresh is = placed_orderly p i (live_with p.timers i.moment.0 p.sessions (kid_in i)) is
 judged_orderly p i Zero is = inl is
 judged_orderly p i Old is = inl is
 judged_orderly p i Seen is = inl is
@@ -192,11 +193,11 @@ engine_orderly kind now p is = answer_on_orderly kind now p (session_on (conn_in
 
 -- ---- the key exchange
 
-third_orderly : (o : Option ℕ) (c : Outcome Turn) → IsOrderly (after_oldest o c.peer.sessions) → IsOrderly (third_closed o c).peer.sessions
+third_orderly : (o : Option ℕ) (c : Outcome Turn) → IsOrderly (after_oldest o c.peer.sessions) → IsOrderly (session_closed o c).peer.sessions
 third_orderly None c is = is
 third_orderly (Some n) c is = is
 
-third_remote : (o : Option ℕ) (c : Outcome Turn) → (third_closed o c).peer.remote ≡ c.peer.remote
+third_remote : (o : Option ℕ) (c : Outcome Turn) → (session_closed o c).peer.remote ≡ c.peer.remote
 third_remote None c = refl
 third_remote (Some n) c = refl
 
@@ -217,7 +218,7 @@ exchanged_from_orderly policy id p own (Some m) is = exchanged_with_orderly id p
 
 pub exchange_orderly : {r : Option Sid} (policy : Policy) (id : ℕ) (draw : Draw) (p : Peer) → IsOrderlyFrom r p → IsOrderlyFrom r (exchanged policy id draw p).peer
 unfolding exchanged
-exchange_orderly policy id draw p is = exchanged_from_orderly policy id p (server_source draw) (prepared p) is
+exchange_orderly policy id draw p is = exchanged_from_orderly policy id p (server_source draw) (prepared_message p) is
 
 message_in_orderly : {r : Option Sid} (n : Option ℕ) (p : Peer) → IsOrderlyFrom r p → IsOrderlyFrom r (after_message_in n p)
 message_in_orderly None p is = is
@@ -268,4 +269,4 @@ opened_in_orderly p datagram m None s is = is
 pub data_orderly : {r : Option Sid} (datagram : List ℕ) (m : Moment) (p : Peer) → IsOrderlyFrom r p → IsOrderlyFrom r (data_came datagram m p).peer
 unfolding data_came
 data_orderly datagram m p is =
-    opened_in_orderly p datagram m (usable_with p.timers m.0 p.sessions (packets.kid_in datagram)) (session_at p.sessions (usable_with p.timers m.0 p.sessions (packets.kid_in datagram))) is
+    opened_in_orderly p datagram m (usable_with p.timers m.0 p.sessions (packets.data_kid datagram)) (session_at p.sessions (usable_with p.timers m.0 p.sessions (packets.data_kid datagram))) is

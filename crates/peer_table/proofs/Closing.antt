@@ -4,7 +4,7 @@ use Rattle.peer_table.specs.KeySessions.{Session, has_keys}
 use Rattle.peer_table.specs.Exchange.{is_open_keyed, oldest_of}
 use Rattle.peer_table.specs.Orderly.{IsOrderly, all_before_have_keys, how_many, more_if}
 use Rattle.peer_table.specs.Places.{before_if, changed_at, places_from}
-use Rattle.peer_table.specs.Time.{closed}
+use Rattle.peer_table.specs.KeySessions.{closed}
 use Rattle.peer_table.proofs.Order.{both, changed_length, pair}
 
 -- ---- what the places of open sessions with keys tell

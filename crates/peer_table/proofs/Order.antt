@@ -2,9 +2,9 @@
 use Rattle.std.proofs.Common.{◌≡◌, ◌≤◌, ℕ, zero, suc, Bool, true, false, List, [], ◌∷◌, length, Some, refl, ap, arith}
 use Rattle.std.proofs.lemmas.Bool.{false≢true}
 use Rattle.std.specs.Prelude.{◌&&◌, slice_get}
-use Rattle.peer_table.specs.KeySessions.{Session, has_keys}
+use Rattle.peer_table.specs.KeySessions.{Session, has_keys, is_open}
 use Rattle.peer_table.specs.Exchange.{is_open_keyed}
-use Rattle.peer_table.specs.Orderly.{IsOrderly, all_before_have_keys, how_many, is_open, more_if}
+use Rattle.peer_table.specs.Orderly.{IsOrderly, all_before_have_keys, how_many, more_if}
 use Rattle.peer_table.specs.Places.{changed_at}
 
 -- a session that has keys keeps them, and one that was not open with keys is not so now

@@ -6,7 +6,7 @@ use Rattle.std.specs.Prelude.{◌&&◌, slice_get}
 use Rattle.vpn_base.specs.declared.names.Conn.{Conn}
 use Rattle.control_link.specs.Calls as link
 use Rattle.peer_table.specs.declared.outcomes.Turn.{Turn}
-use Rattle.peer_table.specs.KeySessions.{Session, has_keys}
+use Rattle.peer_table.specs.KeySessions.{Session, closed, has_keys}
 use Rattle.peer_table.specs.declared.outcomes.Turn.TheVariants.{Going}
 use Rattle.vpn_base.specs.declared.names.Sid.{Sid}
 use Rattle.vpn_base.specs.declared.names.Timers.{Timers}
@@ -15,10 +15,10 @@ use Rattle.peer_table.specs.Peer.{Opens, Outcome, Peer, answered, peer_begun, re
 use Rattle.vpn_base.specs.declared.names.Role.{Role}
 use Rattle.vpn_base.specs.declared.names.Role.TheVariants.{Server, Client}
 use Rattle.peer_table.specs.ControlPackets.{with_next}
-use Rattle.peer_table.specs.Exchange.{is_open_keyed}
+use Rattle.peer_table.specs.Exchange.{is_open_keyed, session_closed}
 use Rattle.peer_table.specs.Orderly.{IsOrderlyFrom, all_before_have_keys, how_many}
 use Rattle.peer_table.specs.Places.{changed_at}
-use Rattle.peer_table.specs.Time.{Ticking, all_closed, closed, gone_by, is_late, renewed, renews, resent, resent_in, retired, retired_closed, staying, ticked, ticked_idle, ticked_late}
+use Rattle.peer_table.specs.Time.{Ticking, all_closed, gone_by, is_late, renewed, renews, resent, resent_in, retired, staying, ticked, ticked_idle, ticked_late}
 use Rattle.peer_table.proofs.Order.{both}
 use Rattle.peer_table.proofs.Begun.{last_has_keys, newest_has_keys}
 use Rattle.peer_table.proofs.Calls.{changed, gone_on_orderly, next_orderly}
@@ -57,7 +57,7 @@ resent_kept b at (n ∷ numbers) c is =
 closed_keeps : (s : Session) → is_open_keyed (closed s) ≡ true → is_open_keyed s ≡ true
 closed_keeps s k = absurd (false≢true k)
 
-retired_kept : {r : Option Sid} (b : Bool) (n : Option ℕ) (c : Outcome Turn) → IsKept b r c.peer → IsKept b r (retired_closed n c).peer
+retired_kept : {r : Option Sid} (b : Bool) (n : Option ℕ) (c : Outcome Turn) → IsKept b r c.peer → IsKept b r (session_closed n c).peer
 retired_kept b None c is = is
 retired_kept b (Some n) c is = record {
   from = changed n closed c.peer (λ s at. record { keyed = λ k. k; few = closed_keeps s }) is.from;
@@ -84,7 +84,7 @@ renews_last p t e = newest_has_keys t.established p.sessions (both (both e).0).0
 
 gone_by_orderly : {r : Option Sid} (p : Peer) (t : Ticking) (n : Option ℕ) → IsOrderlyFrom r p → IsOrderlyFrom r (gone_by p t n).peer
 gone_by_orderly p t n is =
-    renewed_orderly t (renews p t) (retired_closed n (resent t.at (staying p n) (answered p Going)))
+    renewed_orderly t (renews p t) (session_closed n (resent t.at (staying p n) (answered p Going)))
     (retired_kept (renews p t) n (resent t.at (staying p n) (answered p Going))
     (resent_kept (renews p t) t.at (staying p n) (answered p Going) (record { from = is; last = renews_last p t })))
 
@@ -111,10 +111,12 @@ reset_orderly Client now c is = ready_orderly 0 now c is
 pub begun_orderly : (role : Role) (wraps : Wrapping) (own : Sid) (timers : Timers) (conn : Conn) (now : ℕ) → IsOrderlyFrom None (peer_begun role wraps own timers conn now)
 begun_orderly role wraps own timers conn now = record { orderly = record { begun = omega arith; keyed = refl; few = omega arith }; is_remote = refl }
 
--- session 0 has begun
-pub began_orderly : {r : Option Sid} (p : Peer) (conn : Conn) (now : ℕ) → IsOrderlyFrom r p → IsOrderlyFrom r (began p conn now).peer
+-- a peer begins
+pub began_orderly : (role : Role) (wraps : Wrapping) (own : Sid) (timers : Timers) (conn : Conn) (now : ℕ) → IsOrderlyFrom None (began role wraps own timers conn now).peer
 unfolding began
-began_orderly p conn now is = reset_orderly p.role now (record { peer = p; doings = Opens conn ∷ []; datagrams = []; answer = Going }) is
+began_orderly role wraps own timers conn now =
+    reset_orderly role now (record { peer = peer_begun role wraps own timers conn now; doings = Opens conn ∷ []; datagrams = []; answer = Going })
+    (begun_orderly role wraps own timers conn now)
 
 mapped_keyed : (ss : List Session) → all_before_have_keys (map closed ss) ≡ all_before_have_keys ss
 mapped_keyed [] = refl

@@ -18,7 +18,7 @@ use Rattle.control_link.specs.Runs.{read_here, texts_here}
 use Rattle.peer_table.specs.declared.outcomes.Refused.{Refused}
 use Rattle.peer_table.specs.declared.outcomes.Refused.TheVariants.{Replayed, BadKey}
 use Rattle.peer_table.specs.declared.outcomes.Turn.{Turn}
-use Rattle.peer_table.specs.KeySessions.{Session, has_keys, kid_of, live_with, newest, session_begun}
+use Rattle.peer_table.specs.KeySessions.{Session, has_keys, kid_of, live_with, newest, newest_session, session_begun}
 use Rattle.peer_table.specs.Peer.{Doing, Opens, Outcome, Peer, Puts, answered, done_first, turn_of, with_link}
 
 -- a control packet that unwrapped and whose plain text was read, its moment, the number of the next engine connection, and whether
@@ -34,9 +34,13 @@ pub record Incoming : Type 0 where
 abbrev pub kid_in : Incoming → ℕ
 kid_in i = i.packet.first % 8
 
+-- the session id of who sent a control packet
+abbrev pub sid_of : Packet → Sid
+sid_of p = record { 0 = p.sid }
+
 -- who sent it
 abbrev pub sender : Incoming → Sid
-sender i = record { 0 = i.packet.sid }
+sender i = sid_of i.packet
 
 -- as many payloads as may be in order once a packet was taken
 abbrev pub most_in_order : ℕ
@@ -45,10 +49,6 @@ most_in_order = 12
 -- its wrap is accepted
 abbrev pub wrap_accepted : Incoming → EnvelopeHistory → EnvelopeHistory
 wrap_accepted i h = with_accepted h i.packet.time i.packet.id i.moment
-
--- the first control packet that is taken fixes the other end's session id
-abbrev pub remote_fixed : Incoming → Peer → Peer
-remote_fixed i p = record p { remote = option_or p.remote (Some (sender i)) }
 
 -- ---- which session
 
@@ -62,7 +62,7 @@ abbrev pub is_first : Option ℕ → Bool
 is_first None = false
 is_first (Some id) = id == 0
 
--- a session is finished once it has keys, and session 0 only once its client is established, which wants keys
+-- a session is finished once it has keys, and session 0 only once its client is established, for which it has keys already
 abbrev pub is_finished_as : Bool → ℕ → Option Session → Bool
 is_finished_as established n None = false
 is_finished_as established zero (Some s) = has_keys s && established
@@ -70,7 +70,7 @@ is_finished_as established (suc n) (Some s) = has_keys s
 
 -- whether the newest session is finished
 unfoldable pub newest_is_finished : Bool → List Session → Bool
-newest_is_finished established sessions = is_finished_as established (newest sessions) (slice_get sessions (newest sessions))
+newest_is_finished established sessions = is_finished_as established (newest sessions) (newest_session sessions)
 
 -- whether it begins the next session: a soft reset with the next key id and packet id 0, where the newest session is finished
 abbrev pub begins_next : Peer → Incoming → Bool
@@ -86,31 +86,40 @@ puts conn [] = []
 puts conn ([] ∷ texts) = puts conn texts
 puts conn ((b ∷ bytes) ∷ texts) = Puts conn (b ∷ bytes) ∷ puts conn texts
 
--- a session of this number took it, as the link's call says: what is now in order is read
+-- a session of this number took it, as the link's call says: what is now in order is read, and the first packet that is taken fixes the
+-- other end's session id
 abbrev pub taken_as : Peer → Incoming → ℕ → link.Outcome → Outcome (Result Turn Refused)
 taken_as p i n o = record {
-  peer = record (with_link n (read_here most_in_order o.link) p) { envelope = wrap_accepted i o.envelope };
+  peer = record (with_link n (read_here most_in_order o.link) p)
+      { envelope = wrap_accepted i o.envelope; remote = option_or p.remote (Some (sender i)) };
   doings = puts o.link.conn (texts_here most_in_order o.link);
   datagrams = o.datagrams;
   answer = Ok (turn_of o.end);
 }
 
+-- no session takes it
+abbrev pub of_no_session : Peer → Incoming → Outcome (Result Turn Refused)
+of_no_session p i = answered (record p { envelope = wrap_accepted i p.envelope }) (Err (BadKey (kid_in i)))
+
 -- the session of this number takes it
 abbrev pub taken_by : Peer → Incoming → ℕ → Option Session → Outcome (Result Turn Refused)
-taken_by p i n None = answered p (Err (BadKey (kid_in i)))
+taken_by p i n None = of_no_session p i
 taken_by p i n (Some s) = taken_as p i n (link.received s.link p.envelope i.form (sender i) i.moment.0)
 
--- the next session begins, on a connection that is opened
+-- the next session, which begins now on this connection
+abbrev pub next_session : Conn → ℕ → Peer → Session
+next_session conn now p = session_begun p.timers conn (length p.sessions) SoftReset now
+
+-- it stands behind all others
 abbrev pub with_next : Conn → ℕ → Peer → Peer
-with_next conn now p = record p { sessions = p.sessions ++ session_begun p.timers conn (length p.sessions) SoftReset now ∷ [] }
+with_next conn now p = record p { sessions = p.sessions ++ next_session conn now p ∷ [] }
 
 -- it begins the next session, which takes it, or goes to none
 abbrev pub begun_by : Peer → Incoming → Bool → Outcome (Result Turn Refused)
 begun_by p i true =
     done_first (Opens i.next_conn)
-    (taken_by (with_next i.next_conn i.moment.0 p) i (length p.sessions)
-    (Some (session_begun p.timers i.next_conn (length p.sessions) SoftReset i.moment.0)))
-begun_by p i false = answered (record p { envelope = wrap_accepted i p.envelope }) (Err (BadKey (kid_in i)))
+    (taken_by (with_next i.next_conn i.moment.0 p) i (length p.sessions) (Some (next_session i.next_conn i.moment.0 p)))
+begun_by p i false = of_no_session p i
 
 -- it goes to the live session with its key id, or else begins the next one
 abbrev pub placed : Peer → Incoming → Option ℕ → Outcome (Result Turn Refused)
@@ -119,7 +128,7 @@ placed p i None = begun_by p i (begins_next p i)
 
 -- a wrap that is fresh is accepted, also where the packet is refused then
 abbrev pub judged : Peer → Incoming → Freshness → Outcome (Result Turn Refused)
-judged p i Fresh = placed (remote_fixed i p) i (live_with p.timers i.moment.0 p.sessions (kid_in i))
+judged p i Fresh = placed p i (live_with p.timers i.moment.0 p.sessions (kid_in i))
 judged p i stale = answered p (Err (Replayed i.packet.time i.packet.id))
 
 -- A control packet has come, with this peer's session id or where none is fixed yet. Refused in this order: replayed, of no session. Else

@@ -65,15 +65,15 @@ sealed_in p inner (Some n) (Some s) = sealed_by p inner n s (keys_of s.stage) (i
 sealed_in p inner n s = answered p (Err (record {}))
 
 -- an inner packet is sealed under the newest usable keys, with their peer id and the next packet id; spent exactly where that id would pass
--- the last one
+-- the last one, or where there are no keys
 unfoldable pub sealed_to : List ℕ → Peer → Outcome (Result (List ℕ) Spent)
 sealed_to inner p = sealed_in p inner (newest_usable p.sessions) (session_at p.sessions (newest_usable p.sessions))
 
 -- ---- opening
 
 -- the key id in a datagram's first byte
-abbrev pub kid_in : List ℕ → ℕ
-kid_in datagram = slice_index datagram 0 % 8
+abbrev pub data_kid : List ℕ → ℕ
+data_kid datagram = slice_index datagram 0 % 8
 
 -- an id was accepted under the keys of a session
 abbrev pub with_received : ℕ → ℕ → Moment → Peer → Peer
@@ -97,11 +97,11 @@ opened_by p datagram n s moment (Some k) = opened_as p n s moment (opened_under 
 -- whether a usable session has its key id
 abbrev pub opened_in : Peer → List ℕ → Moment → Option ℕ → Option Session → Outcome (Result (List ℕ) SessionFault)
 opened_in p datagram moment (Some n) (Some s) = opened_by p datagram n s moment (keys_of s.stage)
-opened_in p datagram moment n s = answered p (Err (BadKey (kid_in datagram)))
+opened_in p datagram moment n s = answered p (Err (BadKey (data_kid datagram)))
 
 -- A data packet has come. Refused in this order: no usable session has its key id, it does not open, its id is stale. Else its id is
 -- accepted, and the answer is the inner packet.
 unfoldable pub data_came : List ℕ → Moment → Peer → Outcome (Result (List ℕ) SessionFault)
 data_came datagram moment p =
-    opened_in p datagram moment (usable_with p.timers moment.0 p.sessions (kid_in datagram))
-    (session_at p.sessions (usable_with p.timers moment.0 p.sessions (kid_in datagram)))
+    opened_in p datagram moment (usable_with p.timers moment.0 p.sessions (data_kid datagram))
+    (session_at p.sessions (usable_with p.timers moment.0 p.sessions (data_kid datagram)))

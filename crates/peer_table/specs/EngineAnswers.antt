@@ -14,7 +14,7 @@ use Rattle.control_link.specs.Calls as link
 use Rattle.peer_table.specs.declared.outcomes.Turn.{Turn}
 use Rattle.peer_table.specs.declared.outcomes.Turn.TheVariants.{Going, Ignored, Named, Exchange, Over}
 use Rattle.peer_table.specs.Places.{changed_at, first_place}
-use Rattle.peer_table.specs.KeySessions.{Session, Stage, newest}
+use Rattle.peer_table.specs.KeySessions.{Session, Stage, newest_session}
 use Rattle.peer_table.specs.KeySessions as sessions
 use Rattle.peer_table.specs.Peer.{Outcome, Peer, answered, first_over, gone_on, other, remote_of}
 
@@ -47,8 +47,8 @@ message_of p None = None
 message_of p (Some s) = message_in p s s.stage
 
 -- the message by which the newest session is prepared for its exchange: it has a name and no keys, and the message is whole
-unfoldable pub prepared : Peer → Option (Km2 × ℕ)
-prepared p = message_of p (slice_get p.sessions (newest p.sessions))
+unfoldable pub prepared_message : Peer → Option (Km2 × ℕ)
+prepared_message p = message_of p (newest_session p.sessions)
 
 -- the client ends with a message that can't be one
 abbrev pub bad_of : Km2Read → Turn
@@ -75,7 +75,7 @@ next_turn None false = Going
 
 -- the same behind an ending
 abbrev pub with_next_turn : Bool → Outcome Turn → Outcome Turn
-with_next_turn gave_name o = record o { answer = first_over o.answer (next_turn (prepared o.peer) gave_name) }
+with_next_turn gave_name o = record o { answer = first_over o.answer (next_turn (prepared_message o.peer) gave_name) }
 
 -- a message that is bad ends the client
 abbrev pub judged_at : ℕ → Bool → Peer → Outcome Turn

@@ -1,5 +1,5 @@
 -- The key exchange of the newest session, and the messages behind it.
-use Rattle.std.specs.Prelude.{ℕ, zero, suc, ◌+◌, ◌&&◌, ◌==◌, max, Bool, false, List, [], ◌∷◌, ◌++◌, length, take, drop, Option, Some, None, unwrap_or, option_map, slice_get, if◌then◌else◌}
+use Rattle.std.specs.Prelude.{ℕ, zero, suc, ◌+◌, ◌&&◌, ◌==◌, max, Bool, List, [], ◌∷◌, ◌++◌, length, take, drop, Option, Some, None, unwrap_or, option_map, slice_get, if◌then◌else◌}
 use Rattle.std.specs.List.{before_first, find, list_any}
 use Rattle.vpn_base.specs.declared.names.Cause.TheVariants.{NoCipher}
 use Rattle.vpn_base.specs.declared.names.Cipher.{Cipher}
@@ -15,20 +15,20 @@ use Rattle.key_method2.specs.Messages.{server_message}
 use Rattle.peer_table.specs.declared.outcomes.Turn.{Turn}
 use Rattle.peer_table.specs.declared.outcomes.Turn.TheVariants.{Going, Over}
 use Rattle.peer_table.specs.Places.{changed_at, first_place, places_from}
-use Rattle.peer_table.specs.KeySessions.{Keyed, Keys, Session, has_keys, keys_of, newest, newest_usable, session_at}
+use Rattle.peer_table.specs.KeySessions.{Keyed, Keys, Session, closed, has_keys, keys_of, newest, newest_session, newest_usable, session_at}
 use Rattle.peer_table.specs.Peer.{Closes, Doing, Outcome, Peer, Writes, answered, remote_of}
-use Rattle.peer_table.specs.EngineAnswers.{prepared}
+use Rattle.peer_table.specs.EngineAnswers.{prepared_message}
 
 -- ---- the cipher
 
--- the ciphers of two, the first before the second
-abbrev pub both : Cipher → Option Cipher → List Cipher
-both first None = first ∷ []
-both first (Some second) = first ∷ second ∷ []
+-- the ciphers that are tried, in order
+abbrev pub ciphers_of : Cipher → Option Cipher → List Cipher
+ciphers_of first None = first ∷ []
+ciphers_of first (Some second) = first ∷ second ∷ []
 
 -- the cipher of a session: the first of ours that the peer info offers, or the one that is fixed
 abbrev pub chosen : Policy → List ℕ → Option Cipher
-chosen (Choose first second) info = find (offers info) (both first second)
+chosen (Choose first second) info = find (offers info) (ciphers_of first second)
 chosen (Fixed cipher) info = Some cipher
 
 -- the same for a message that is there
@@ -38,7 +38,7 @@ chosen_for policy (Some message) = chosen policy message.0.info
 
 -- the cipher that the exchange would choose now, where the newest session is prepared for it
 unfoldable pub cipher_ahead : Policy → Peer → Option Cipher
-cipher_ahead policy p = chosen_for policy (prepared p)
+cipher_ahead policy p = chosen_for policy (prepared_message p)
 
 -- ---- the keys
 
@@ -61,11 +61,11 @@ with_keys n keys used p = record p { sessions = changed_at n (λ s. record s { s
 -- whether the client asked to be established without a push request, which its message in session 0 says
 abbrev pub asks_with : ℕ → List ℕ → Peer → Bool
 asks_with zero info p = asks_push info
-asks_with (suc n) info p = p.asks
+asks_with (suc n) info p = p.asks_push
 
--- a session is closed: it keeps what it had
+-- the session of this number is closed
 abbrev pub closed_at : ℕ → Peer → Peer
-closed_at n p = record p { sessions = changed_at n (λ s. record s { is_open = false }) p.sessions }
+closed_at n p = record p { sessions = changed_at n closed p.sessions }
 
 -- whether a session is open and has keys
 abbrev pub is_open_keyed : Session → Bool
@@ -81,14 +81,14 @@ abbrev pub closing : Option Session → List Doing
 closing None = []
 closing (Some s) = Closes s.link.conn ∷ []
 
--- a session with keys that is one too many is closed
-abbrev pub third_closed : Option ℕ → Outcome Turn → Outcome Turn
-third_closed None o = o
-third_closed (Some n) o = record o { peer = closed_at n o.peer; doings = o.doings ++ closing (slice_get o.peer.sessions n) }
+-- the session of a number is closed, where there is one to close
+abbrev pub session_closed : Option ℕ → Outcome Turn → Outcome Turn
+session_closed None o = o
+session_closed (Some n) o = record o { peer = closed_at n o.peer; doings = o.doings ++ closing (slice_get o.peer.sessions n) }
 
--- the same for the sessions as they are now
+-- a session with keys that is one too many is closed
 abbrev pub at_most_two : Outcome Turn → Outcome Turn
-at_most_two o = third_closed (oldest_of (places_from is_open_keyed 0 o.peer.sessions)) o
+at_most_two o = session_closed (oldest_of (places_from is_open_keyed 0 o.peer.sessions)) o
 
 -- what the server writes on the connection of a session
 abbrev pub writing : List ℕ → Option Session → List Doing
@@ -101,8 +101,8 @@ exchanged_with peer_id p own message used None = answered p (Over NoCipher)
 exchanged_with peer_id p own message used (Some cipher) = at_most_two (record {
   peer = record (with_keys (newest p.sessions)
       (record { block = block_of message.source own (remote_of p).0 p.envelope.own.0; cipher = cipher; peer_id = peer_id }) used p)
-      { asks = asks_with (newest p.sessions) message.info p };
-  doings = writing (server_message own) (slice_get p.sessions (newest p.sessions));
+      { asks_push = asks_with (newest p.sessions) message.info p };
+  doings = writing (server_message own) (newest_session p.sessions);
   datagrams = [];
   answer = Going;
 })
@@ -114,7 +114,7 @@ exchanged_from policy peer_id p own (Some message) = exchanged_with peer_id p ow
 
 -- the key exchange of the newest session, where it is prepared; what is sealed under its keys carries this peer id
 unfoldable pub exchanged : Policy → ℕ → Draw → Peer → Outcome Turn
-exchanged policy peer_id draw p = exchanged_from policy peer_id p (server_source draw) (prepared p)
+exchanged policy peer_id draw p = exchanged_from policy peer_id p (server_source draw) (prepared_message p)
 
 -- the cipher of a session with keys
 abbrev pub cipher_in : Option Session → Option Cipher
@@ -163,6 +163,17 @@ after_message_in (Some n) p = record p { sessions = changed_at n message_read p.
 -- the same for the message that waits now
 unfoldable pub after_message : Peer → Peer
 after_message p = after_message_in (waiting_in p) p
+
+-- ---- the connection of session 0
+
+-- the connection of a session
+abbrev pub conn_of : Option Session → Option Conn
+conn_of None = None
+conn_of (Some s) = Some s.link.conn
+
+-- that of session 0, on which a client is told what is pushed to it
+unfoldable pub first_conn : Peer → Option Conn
+first_conn p = conn_of (slice_get p.sessions 0)
 
 -- ---- how much is unread
 

@@ -1,6 +1,6 @@
 -- The key sessions of one client, numbered from 0 in the order in which they began: none is ever taken out. Which of
 -- them are live, and which are usable.
-use Rattle.std.specs.Prelude.{ℕ, zero, suc, ◌+◌, ◌-◌, ◌*◌, ◌%◌, nat_lt, ◌==◌, Bool, true, false, List, [], ◌∷◌, length, take, Option, Some, None, slice_get}
+use Rattle.std.specs.Prelude.{ℕ, zero, suc, ◌+◌, ◌-◌, ◌*◌, ◌%◌, nat_le, not, ◌==◌, Bool, true, false, List, [], ◌∷◌, length, take, Option, Some, None, slice_get}
 use Rattle.std.specs.List.{find}
 use Rattle.vpn_base.specs.declared.names.Cipher.{Cipher}
 use Rattle.vpn_base.specs.declared.names.Conn.{Conn}
@@ -8,7 +8,7 @@ use Rattle.vpn_base.specs.declared.names.Timers.{Timers}
 use Rattle.opcode_codec.specs.declared.opcodes.Opcode.{Opcode}
 use Rattle.packet_ids.specs.Freshness.{History, begun}
 use Rattle.control_link.specs.Links.{Link, link_begun}
-use Rattle.peer_table.specs.Places.{last_place}
+use Rattle.peer_table.specs.Places.{last_place, places_from}
 
 -- the keys of a session: the block of 256 bytes that they are cut from, the cipher that they are for, and the peer id that stands in
 -- what is sealed under them
@@ -80,6 +80,22 @@ session_at sessions (Some n) = slice_get sessions n
 abbrev pub newest : List Session → ℕ
 newest sessions = length sessions - 1
 
+-- the newest session
+abbrev pub newest_session : List Session → Option Session
+newest_session sessions = slice_get sessions (newest sessions)
+
+-- whether a session is open
+abbrev pub is_open : Session → Bool
+is_open s = s.is_open
+
+-- the numbers of the open sessions, in order
+abbrev pub open_numbers : List Session → List ℕ
+open_numbers sessions = places_from is_open 0 sessions
+
+-- a session that is closed keeps what it had
+abbrev pub closed : Session → Session
+closed s = record s { is_open = false }
+
 -- ---- which keys may be used
 
 -- the last session that has keys: it seals
@@ -95,14 +111,18 @@ keyed_before sessions (Some n) = last_place has_keys (take n sessions)
 unfoldable pub retiring : List Session → Option ℕ
 retiring sessions = keyed_before sessions (newest_usable sessions)
 
--- less than so many seconds have passed since a session began
-abbrev pub began_within : ℕ → ℕ → Option Session → Bool
-began_within seconds now None = false
-began_within seconds now (Some s) = nat_lt now (s.began + 1000 * seconds)
+-- whether so many seconds have passed since a moment
+abbrev pub has_passed : ℕ → ℕ → ℕ → Bool
+has_passed seconds since now = nat_le (since + 1000 * seconds) now
+
+-- whether so many seconds have passed since a session began
+abbrev pub began_before : ℕ → ℕ → Option Session → Bool
+began_before seconds now None = false
+began_before seconds now (Some s) = has_passed seconds s.began now
 
 -- whether the one before the last with keys may still be used: the last one began less than the transition window ago
 unfoldable pub in_transition : Timers → ℕ → List Session → Bool
-in_transition timers now sessions = began_within timers.tran now (session_at sessions (newest_usable sessions))
+in_transition timers now sessions = not (began_before timers.tran now (session_at sessions (newest_usable sessions)))
 
 -- the last with keys, and the one before it where it may still be used
 abbrev pub usable_of : Option ℕ → Option ℕ → Bool → List ℕ

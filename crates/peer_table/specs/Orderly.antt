@@ -7,10 +7,6 @@ use Rattle.peer_table.specs.Peer.{Peer}
 use Rattle.peer_table.specs.KeySessions.{Session, has_keys}
 use Rattle.peer_table.specs.Exchange.{is_open_keyed}
 
--- whether a session is open
-abbrev pub is_open : Session → Bool
-is_open s = s.is_open
-
 -- one more, where something holds
 abbrev pub more_if : Bool → ℕ → ℕ
 more_if true n = suc n

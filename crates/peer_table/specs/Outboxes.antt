@@ -1,5 +1,5 @@
 -- What a call of a client's session leaves: the session, and the outbox that it was lent.
-use Rattle.std.specs.Prelude.{◌≡◌, ◌≤◌, ℕ, Bool, List, [], ◌∷◌, ◌++◌, drop, length, map, Result, Ok, Err}
+use Rattle.std.specs.Prelude.{◌+◌, ◌≡◌, ◌≤◌, ℕ, Bool, List, [], ◌∷◌, ◌++◌, drop, length, map, Result, Ok, Err}
 use Rattle.vpn_base.specs.declared.address.Addr.{Addr}
 use Rattle.vpn_base.specs.declared.errors.NoMemory.{NoMemory}
 use Rattle.vpn_base.specs.declared.names.Conn.{Conn}
@@ -11,7 +11,10 @@ use Rattle.opcode_codec.specs.declared.control.ControlView.{ControlView}
 use Rattle.tls_crypt.specs.declared.wrapping.Opened.{Opened}
 use Rattle.control_link.specs.Calls.{datagrams_to}
 use Rattle.packet_ids.specs.declared.sending.Spent.{Spent}
-use Rattle.peer_table.specs.declared.client_session.Message.{Message}
+use Rattle.peer_table.specs.declared.outcomes.Message.{Message}
+use Rattle.peer_table.specs.declared.outcomes.Refused.{Refused}
+use Rattle.peer_table.specs.declared.outcomes.Turn.{Turn}
+use Rattle.peer_table.specs.declared.outcomes.Turn.TheVariants.{Over}
 use Rattle.peer_table.specs.declared.outcomes.SessionFault.{SessionFault}
 use Rattle.peer_table.specs.declared.outcomes.SessionFault.TheVariants.{Stale}
 use Rattle.peer_table.specs.ControlPackets.{Incoming}
@@ -48,10 +51,25 @@ incoming o v next_conn established moment = record {
   established = established;
 }
 
--- a call needs no more than this room, where the session was made ready for the event with so many effects and bytes
+-- an outbox has room for so many effects or staged datagrams more, and for so many bytes
 pub record HasRoom (before : Contents) (effects bytes : ℕ) : Type 0 where
   pub effects_fit : effects ≤ before.spare_effects
   pub bytes_fit : bytes ≤ before.spare_bytes
+
+-- no more than so many effects and bytes of an outbox's room were used
+pub record Uses (before after : Contents) (effects bytes : ℕ) : Type 0 where
+  pub effects_left : before.spare_effects ≤ after.spare_effects + effects
+  pub bytes_left : before.spare_bytes ≤ after.spare_bytes + bytes
+
+-- a session that goes on after a turn goes on, and one that is over need not
+abbrev pub GoesOnUnlessOver : Type 0 → Turn → Type 0
+GoesOnUnlessOver goes_on (Over cause) = Unit {0}
+GoesOnUnlessOver goes_on turn = goes_on
+
+-- the same for what a control packet comes to
+abbrev pub GoesOnAfter : Type 0 → Result Turn Refused → Type 0
+GoesOnAfter goes_on (Ok turn) = GoesOnUnlessOver goes_on turn
+GoesOnAfter goes_on (Err refused) = goes_on
 
 -- what sealing puts on the wire
 abbrev pub wired : Addr → Result (List ℕ) Spent → List Action

@@ -30,7 +30,7 @@ pub record Peer : Type 0 where
   pub envelope : EnvelopeHistory
   pub remote : Option Sid
   pub name : Option (List ℕ)
-  pub asks : Bool
+  pub asks_push : Bool
   pub sessions : List Session
 
 -- what a session's calls do to the outside, beside the control datagrams that they stage: a connection of the TLS engine is opened,
@@ -83,7 +83,7 @@ peer_begun role wraps own timers conn now = record {
   envelope = envelope_begun wraps own (wrap_time now) timers.win timers.win_secs;
   remote = None;
   name = None;
-  asks = false;
+  asks_push = false;
   sessions = session_begun timers conn 0 (first_reset role) now ∷ [];
 }
 
@@ -134,6 +134,7 @@ abbrev pub reset_by : Role → ℕ → Outcome Turn → Outcome Turn
 reset_by Server now so_far = so_far
 reset_by Client now so_far = ready_sent 0 now so_far
 
--- session 0 has begun: its connection is opened
-unfoldable pub began : Peer → Conn → ℕ → Outcome Turn
-began p conn now = reset_by p.role now (record { peer = p; doings = Opens conn ∷ []; datagrams = []; answer = Going })
+-- a peer begins: the connection of its session 0 is opened
+unfoldable pub began : Role → Wrapping → Sid → Timers → Conn → ℕ → Outcome Turn
+began role wraps own timers conn now =
+    reset_by role now (record { peer = peer_begun role wraps own timers conn now; doings = Opens conn ∷ []; datagrams = []; answer = Going })

@@ -1,5 +1,5 @@
 -- Time passes for one client's session, and the session ends.
-use Rattle.std.specs.Prelude.{ℕ, ◌+◌, ◌*◌, ◌^◌, ◌==◌, ◌&&◌, ◌||◌, nat_le, not, Bool, true, false, List, [], ◌∷◌, ◌++◌, map, length, Option, Some, None, slice_get, if◌then◌else◌}
+use Rattle.std.specs.Prelude.{ℕ, ◌*◌, ◌^◌, ◌==◌, ◌&&◌, ◌||◌, nat_le, not, Bool, true, false, List, [], ◌∷◌, ◌++◌, map, length, Option, Some, None, slice_get, if◌then◌else◌}
 use Rattle.std.specs.List.{filter}
 use Rattle.vpn_base.specs.declared.names.Cause.TheVariants.{HandWindow, PingRestart}
 use Rattle.vpn_base.specs.declared.names.Conn.{Conn}
@@ -7,11 +7,10 @@ use Rattle.vpn_base.specs.declared.names.Timers.{Timers}
 use Rattle.control_link.specs.Calls as link
 use Rattle.peer_table.specs.declared.outcomes.Turn.{Turn}
 use Rattle.peer_table.specs.declared.outcomes.Turn.TheVariants.{Going, Over}
-use Rattle.peer_table.specs.Places.{places_from}
-use Rattle.peer_table.specs.KeySessions.{Session, has_keys, in_transition, newest, retiring, session_at}
+use Rattle.peer_table.specs.KeySessions.{Session, began_before, closed, has_keys, has_passed, in_transition, is_open, newest_session, open_numbers, retiring, session_at}
 use Rattle.peer_table.specs.Peer.{Closes, Doing, Opens, Outcome, Peer, answered, gone_on, ready_sent, remote_of}
 use Rattle.peer_table.specs.ControlPackets.{newest_is_finished, with_next}
-use Rattle.peer_table.specs.Exchange.{closed_at, closing}
+use Rattle.peer_table.specs.Exchange.{session_closed}
 
 -- a moment at which time is looked at, the number of the next engine connection, whether its client is
 -- established, and whether the other end was silent for too long, by the rule of this end's role
@@ -25,18 +24,9 @@ pub record Ticking : Type 0 where
 abbrev pub ticking : ℕ → Conn → Bool → Bool → Ticking
 ticking at next_conn established idle = record { at = at; next_conn = next_conn; established = established; idle = idle }
 
--- at least so many seconds have passed since a session began
-abbrev pub began_before : ℕ → ℕ → Option Session → Bool
-began_before seconds at None = false
-began_before seconds at (Some s) = nat_le (s.began + 1000 * seconds) at
-
--- the newest session
-abbrev pub newest_session : Peer → Option Session
-newest_session p = slice_get p.sessions (newest p.sessions)
-
 -- whether the newest session had its time to finish and did not
 abbrev pub is_late : Peer → Ticking → Bool
-is_late p t = not (newest_is_finished t.established p.sessions) && began_before p.timers.hand t.at (newest_session p)
+is_late p t = not (newest_is_finished t.established p.sessions) && began_before p.timers.hand t.at (newest_session p.sessions)
 
 -- ---- what is due is sent again
 
@@ -52,10 +42,10 @@ resent at (n ∷ numbers) so_far = resent at numbers (resent_in n at so_far (sli
 
 -- ---- the retired session is closed
 
--- whether a session is open
+-- whether a session that may be there is open
 abbrev pub is_open_session : Option Session → Bool
 is_open_session None = false
-is_open_session (Some s) = s.is_open
+is_open_session (Some s) = is_open s
 
 -- the one before the last with keys, where it is open and no longer usable
 abbrev pub retired_if : Option ℕ → Bool → Bool → Option ℕ
@@ -67,20 +57,14 @@ unfoldable pub retired : Peer → ℕ → Option ℕ
 retired p at =
     retired_if (retiring p.sessions) (is_open_session (session_at p.sessions (retiring p.sessions))) (in_transition p.timers at p.sessions)
 
--- whether this is the one
-abbrev pub is_the : Option ℕ → ℕ → Bool
-is_the None m = false
-is_the (Some n) m = n == m
+-- whether a number that may be there is this one
+abbrev pub is_number : Option ℕ → ℕ → Bool
+is_number None m = false
+is_number (Some n) m = n == m
 
 -- the open sessions that stay open, in order
 abbrev pub staying : Peer → Option ℕ → List ℕ
-staying p closed = filter (λ n. not (is_the closed n)) (places_from (λ s. s.is_open) 0 p.sessions)
-
--- it is closed
-abbrev pub retired_closed : Option ℕ → Outcome Turn → Outcome Turn
-retired_closed None so_far = so_far
-retired_closed (Some n) so_far =
-    record so_far { peer = closed_at n so_far.peer; doings = so_far.doings ++ closing (slice_get so_far.peer.sessions n) }
+staying p retired = filter (λ n. not (is_number retired n)) (open_numbers p.sessions)
 
 -- ---- renegotiation
 
@@ -88,11 +72,11 @@ retired_closed (Some n) so_far =
 abbrev pub is_worn : Timers → ℕ → Option Session → Bool
 is_worn timers at None = false
 is_worn timers at (Some s) =
-    (not (timers.reneg == 0) && nat_le (s.began + 1000 * timers.reneg) at) || (has_keys s && nat_le (255 * 2 ^ 24) s.sealed)
+    (not (timers.reneg == 0) && has_passed timers.reneg s.began at) || (has_keys s && nat_le (255 * 2 ^ 24) s.sealed)
 
 -- whether the next session is to begin: the newest one is finished, and the client established
 abbrev pub renews : Peer → Ticking → Bool
-renews p t = newest_is_finished t.established p.sessions && t.established && is_worn p.timers t.at (newest_session p)
+renews p t = newest_is_finished t.established p.sessions && t.established && is_worn p.timers t.at (newest_session p.sessions)
 
 -- the next session begins: its connection is opened, its soft reset sent
 abbrev pub renewed : Ticking → Bool → Outcome Turn → Outcome Turn
@@ -106,7 +90,7 @@ renewed t true so_far =
 -- what is due is sent again in the sessions that stay open, the retired one is closed, and the next one begins; where the wrap ids end
 -- the client ends, once all of this was done
 abbrev pub gone_by : Peer → Ticking → Option ℕ → Outcome Turn
-gone_by p t closed = renewed t (renews p t) (retired_closed closed (resent t.at (staying p closed) (answered p Going)))
+gone_by p t retired = renewed t (renews p t) (session_closed retired (resent t.at (staying p retired) (answered p Going)))
 
 -- silence for too long ends the client
 abbrev pub ticked_idle : Peer → Ticking → Bool → Outcome Turn
@@ -128,10 +112,6 @@ ticked t p = ticked_late p t (is_late p t)
 abbrev pub closings : List Session → List Doing
 closings [] = []
 closings (s ∷ sessions) = if s.is_open then Closes s.link.conn ∷ closings sessions else closings sessions
-
--- a session is closed
-abbrev pub closed : Session → Session
-closed s = record s { is_open = false }
 
 -- every session is closed
 abbrev pub all_closed : Peer → Peer

@@ -1,6 +1,6 @@
 //! A client's session, as a core knows it.
 
-ghost use Rattle.std.specs.Prelude.{◌≡◌, ◌≤◌, ◌<◌, ◌+◌, ◌-◌, ◌^◌, ℕ, List, length, take, IfOk, IsOk, is_ok, is_some, OnOk, OnErr, ◌++◌};
+ghost use Rattle.std.specs.Prelude.{◌≡◌, ◌≤◌, ◌<◌, ◌+◌, ◌-◌, ◌^◌, ℕ, List, length, take, IfOk, IsOk, is_ok, is_some, Bool, MatchResult, OnOk, OnErr, ◌++◌};
 ghost use Rattle.std.specs.Option.{option_map, option_copied};
 ghost use Rattle.vpn_base.specs.declared.address.Addr.{Addr};
 ghost use Rattle.vpn_base.specs.declared.names.Cid.{Cid};
@@ -9,31 +9,22 @@ ghost use Rattle.vpn_links.specs.declared.events.FileAnswer.{FileAnswer};
 ghost use Rattle.vpn_links.specs.declared.events.Kind.{Kind};
 ghost use Rattle.vpn_links.specs.declared.events.Kind.TheVariants.{Datagram, File};
 ghost use Rattle.tls_crypt.specs.Wrapped.{half, keys_of, wrapped, written_half};
-ghost use Rattle.peer_table.specs.Peer.{Peer, began, peer_begun};
+ghost use Rattle.peer_table.specs.Peer.{Peer, began};
 ghost use Rattle.peer_table.specs.ControlPackets.{control_came};
 ghost use Rattle.peer_table.specs.DataPackets.{data_came, sealed_to};
 ghost use Rattle.peer_table.specs.EngineAnswers.{engine_came, open_with};
-ghost use Rattle.peer_table.specs.Exchange.{after_message, cipher_ahead, cipher_of, exchanged, most_unread, next_message};
+ghost use Rattle.peer_table.specs.Exchange.{after_message, first_conn, cipher_ahead, cipher_of, exchanged, most_unread, next_message};
 ghost use Rattle.peer_table.specs.Naming.{place};
-ghost use Rattle.peer_table.specs.Outboxes.{HasRoom, IsUnchanged, Leaves, LeavesSealed, LeavesUnless, TellsOpened, actions_of, incoming, message_seen};
+ghost use Rattle.peer_table.specs.Outboxes.{GoesOnAfter, GoesOnUnlessOver, HasRoom, Uses, IsUnchanged, Leaves, LeavesSealed, LeavesUnless, TellsOpened, actions_of, incoming, message_seen};
 ghost use Rattle.peer_table.specs.Time.{closings, ticked, ticking};
 
-use crate::outcomes::{Refused, SessionFault, Turn};
+use crate::outcomes::{Message, Refused, SessionFault, Turn};
 use opcode_codec::ControlView;
 use packet_ids::Spent;
 use std::alloc::Global;
 use tls_crypt::{Opened, StaticKey};
 use vpn_base::{Addr, Cipher, Conn, Draw, Moment, NoMemory, Place, Policy, Role, Sid, Timers};
 use vpn_links::{Kind, Outbox};
-
-/// A message behind a key exchange, without its NUL.
-#[derive(Clone, Copy)]
-pub struct Message<'a> {
-    /// The engine connection that it came on.
-    pub conn: Conn,
-    /// Its bytes.
-    pub bytes: &'a [u8],
-}
 
 /// The session of one client with all its key sessions, as a core knows it. Each call leaves it and the
 /// outbox as one function over everything that the client ever said has it, and answers that function's
@@ -47,14 +38,19 @@ pub trait ClientSession {
     /// How many key sessions it ever had.
     ghost count: { Self → ℕ };
 
-    /// It has the memory for this event beside an outbox with room for so many effects and bytes.
-    ghost is_ready: { Self → Kind → ℕ → ℕ → Type 0 };
+    /// It did not end: after a turn that is over, only calls that look follow.
+    ghost goes_on: { Self → Type 0 };
+
+    /// It has the memory for this event, of a client that is established or is not, beside an outbox with room
+    /// for so many effects and bytes.
+    ghost is_ready: { Self → Kind → Bool → ℕ → ℕ → Type 0 };
 
     /// It has the memory for a key exchange.
     ghost may_exchange: { Self → Type 0 };
 
     /// An answer for a client's file may make a key exchange, and does nothing else here.
-    ghost ready_for_file: { (s : Self) (cid : Cid) (answer : FileAnswer) (effects bytes : ℕ) → is_ready s (File cid answer) effects bytes → may_exchange s };
+    ghost ready_for_file: { (s : Self) (cid : Cid) (answer : FileAnswer) (established : Bool) (effects bytes : ℕ) →
+        is_ready s (File cid answer) established effects bytes → may_exchange s };
 
     /// A session whose key session 0 begins on this connection, at this moment in milliseconds. Its engine
     /// connection is opened. The own session id, the timers and the half of the static key for this role are
@@ -70,17 +66,24 @@ pub trait ClientSession {
         to: Addr,
         out: &mut Outbox,
     ) -> Result<Self, NoMemory>
+        requires window { 1 ≤ timers.win }
+        requires some_timeout { 1 ≤ timers.timeout }
+        requires short_timeout { timers.timeout ≤ 60 }
         ensures made { IfOk result (λ s. Leaves stands s out.old out.new to
-            (began (peer_begun role (wrapped (keys_of (half key.now.0 (written_half role)))) own timers conn now.0) conn now.0)) }
+            (began role (wrapped (keys_of (half key.now.0 (written_half role)))) own timers conn now.0)) }
         ensures kept { OnErr result (Holds out.new out.old.effects out.old.staged) }
+        ensures goes_on { IfOk result (λ s. goes_on s) }
+        ensures uses { Uses out.old out.new 2 1200 }
         ensures first { IfOk result (λ s. count s ≡ 1) };
 
     /// Takes the memory that the calls for an event may need beside the outbox, and answers for how many
     /// effects and bytes the outbox has to have room. `established` says that the client is established.
     fn ready(&mut self, kind: &Kind, established: bool) -> Result<(usize, usize), NoMemory>
-        requires { count self.old < 2 ^ 64 - 1 }
+        requires few { count self.old < 2 ^ 64 - 1 }
+        requires goes_on { goes_on self.old }
         ensures same { (p : Peer) → stands self.old p → stands self.new p }
-        ensures ready { IfOk result (λ room. is_ready self.new kind.now room.0 room.1) }
+        ensures goes_on { goes_on self.new }
+        ensures ready { IfOk result (λ room. is_ready self.new kind.now established room.0 room.1) }
         ensures count { count self.new ≡ count self.old };
 
     /// A control packet has come that unwrapped and whose plain text was read. Refused are a wrap that was
@@ -98,12 +101,16 @@ pub trait ClientSession {
     ) -> Result<Result<Turn, Refused>, NoMemory>
         requires acks { view.now.acks.count ≤ 8 }
         requires few { count self.old < 2 ^ 64 - 1 }
+        requires goes_on { goes_on self.old }
         ensures left { (p : Peer) → stands self.old p →
             LeavesUnless result stands self.new out.old out.new to p (control_came p (incoming opened.now view.now next_conn established now)) }
         ensures answer { IfOk result (λ answer. (p : Peer) → stands self.old p →
             answer ≡ (control_came p (incoming opened.now view.now next_conn established now)).answer) }
-        ensures fits { (from : Addr) (bytes : List ℕ) (effects room : ℕ) → is_ready self.old (Datagram from bytes) effects room →
+        ensures goes_on { MatchResult result (GoesOnAfter (goes_on self.new)) (λ _. goes_on self.new) }
+        ensures fits { (from : Addr) (bytes : List ℕ) (effects room : ℕ) → is_ready self.old (Datagram from bytes) established effects room →
             length view.now.payload.now ≤ length bytes → HasRoom out.old effects room → IsOk result }
+        ensures uses { (from : Addr) (bytes : List ℕ) (effects room : ℕ) → is_ready self.old (Datagram from bytes) established effects room →
+            length view.now.payload.now ≤ length bytes → Uses out.old out.new effects room }
         ensures count { count self.new ≤ count self.old + 1 };
 
     /// The engine has answered on a connection. An answer for no open connection does nothing, and neither
@@ -115,11 +122,14 @@ pub trait ClientSession {
         now: Moment,
         out: &mut Outbox,
     ) -> Result<Turn, NoMemory>
+        requires { goes_on self.old }
         ensures left { (p : Peer) → stands self.old p → LeavesUnless result stands self.new out.old out.new to p (engine_came kind.now now.0 p) }
         ensures answer { IfOk result (λ turn. (p : Peer) → stands self.old p → turn ≡ (engine_came kind.now now.0 p).answer) }
-        ensures fits { (effects room : ℕ) → is_ready self.old kind.now effects room → HasRoom out.old effects room → IsOk result }
-        ensures exchange { (effects room : ℕ) → is_ready self.old kind.now effects room → may_exchange self.new }
-        ensures room { (effects room : ℕ) → is_ready self.old kind.now effects room → HasRoom out.old effects room → HasRoom out.new 2 93 }
+        ensures goes_on { MatchResult result (GoesOnUnlessOver (goes_on self.new)) (λ _. goes_on self.new) }
+        ensures fits { (established : Bool) (effects room : ℕ) → is_ready self.old kind.now established effects room → HasRoom out.old effects room → IsOk result }
+        ensures exchange { (established : Bool) (effects room : ℕ) → is_ready self.old kind.now established effects room → may_exchange self.new }
+        ensures uses { (established : Bool) (effects room : ℕ) → is_ready self.old kind.now established effects room →
+            HasRoom out.old effects room → HasRoom out.new 2 93 × Uses out.old out.new effects room }
         ensures count { count self.new ≡ count self.old };
 
     /// Makes the key exchange of the newest key session, where it is prepared, and does nothing where it is
@@ -134,11 +144,14 @@ pub trait ClientSession {
         now: Moment,
         out: &mut Outbox,
     ) -> Result<Turn, NoMemory>
-        requires { peer_id < 2 ^ 24 }
+        requires peer_id { peer_id < 2 ^ 24 }
+        requires goes_on { goes_on self.old }
         ensures left { (p : Peer) → stands self.old p →
             LeavesUnless result stands self.new out.old out.new to p (exchanged policy.now peer_id draw.now p) }
         ensures answer { IfOk result (λ turn. (p : Peer) → stands self.old p → turn ≡ (exchanged policy.now peer_id draw.now p).answer) }
+        ensures goes_on { MatchResult result (GoesOnUnlessOver (goes_on self.new)) (λ _. goes_on self.new) }
         ensures fits { may_exchange self.old → HasRoom out.old 2 93 → IsOk result }
+        ensures uses { Uses out.old out.new 2 93 }
         ensures count { count self.new ≡ count self.old };
 
     /// The next message behind a key exchange, if one waits.
@@ -147,7 +160,9 @@ pub trait ClientSession {
 
     /// Passes the next message, if one waits. It takes no memory.
     fn pass_message(&mut self)
+        requires { goes_on self.old }
         ensures passed { (p : Peer) → stands self.old p → stands self.new (after_message p) }
+        ensures goes_on { goes_on self.new }
         ensures count { count self.new ≡ count self.old };
 
     /// Time has passed. `established` says that the client is, `idle` that nothing fresh came of it
@@ -161,11 +176,14 @@ pub trait ClientSession {
         now: Moment,
         out: &mut Outbox,
     ) -> Result<Turn, NoMemory>
-        requires { count self.old < 2 ^ 64 - 1 }
+        requires few { count self.old < 2 ^ 64 - 1 }
+        requires goes_on { goes_on self.old }
         ensures left { (p : Peer) → stands self.old p →
             LeavesUnless result stands self.new out.old out.new to p (ticked (ticking now.0 next_conn established idle) p) }
         ensures answer { IfOk result (λ turn. (p : Peer) → stands self.old p → turn ≡ (ticked (ticking now.0 next_conn established idle) p).answer) }
-        ensures fits { (effects room : ℕ) → is_ready self.old Kind.Tick effects room → HasRoom out.old effects room → IsOk result }
+        ensures goes_on { MatchResult result (GoesOnUnlessOver (goes_on self.new)) (λ _. goes_on self.new) }
+        ensures fits { (effects room : ℕ) → is_ready self.old Kind.Tick established effects room → HasRoom out.old effects room → IsOk result }
+        ensures uses { (effects room : ℕ) → is_ready self.old Kind.Tick established effects room → Uses out.old out.new effects room }
         ensures count { count self.new ≤ count self.old + 1 };
 
     /// Seals an inner packet of at most 1,500 bytes under the newest usable keys, and adds it to the outbox as
@@ -174,18 +192,23 @@ pub trait ClientSession {
     fn seal_to(&mut self, inner: &[u8], to: Addr, out: &mut Outbox) -> Result<(), Spent>
         requires short { length inner.now ≤ 1500 }
         requires room { HasRoom out.old 1 1524 }
+        requires goes_on { goes_on self.old }
         ensures left { (p : Peer) → stands self.old p → LeavesSealed stands self.new out.old out.new to (sealed_to inner.now p) }
         ensures answer { (p : Peer) → stands self.old p → is_ok result ≡ is_ok (sealed_to inner.now p).answer }
+        ensures goes_on { goes_on self.new }
+        ensures uses { Uses out.old out.new 1 1524 }
         ensures count { count self.new ≡ count self.old };
 
     /// Opens a data packet in place, and answers the length of its inner packet, which then stands behind the
     /// first 24 bytes. The bytes are unchanged where no usable key session has the key id or nothing opens. It
     /// takes no memory.
     fn unseal(&mut self, datagram: &mut [u8], now: Moment) -> Result<usize, SessionFault>
-        requires { length datagram.old ≤ 65536 }
+        requires short { length datagram.old ≤ 65536 }
+        requires goes_on { goes_on self.old }
         ensures left { (p : Peer) → stands self.old p → stands self.new (data_came datagram.old now p).peer }
         ensures answer { (p : Peer) → stands self.old p → TellsOpened result datagram.new (data_came datagram.old now p).answer }
         ensures unchanged { IsUnchanged result datagram.old datagram.new }
+        ensures goes_on { goes_on self.new }
         ensures front { take 24 datagram.new ≡ take 24 datagram.old }
         ensures length { length datagram.new ≡ length datagram.old }
         ensures count { count self.new ≡ count self.old };
@@ -200,7 +223,7 @@ pub trait ClientSession {
 
     /// Whether the client asked to be established without a push request. It is false before the exchange.
     fn asks_push(&self) -> bool
-        ensures { (p : Peer) → stands self.now p → result ≡ p.asks };
+        ensures { (p : Peer) → stands self.now p → result ≡ p.asks_push };
 
     /// The cipher of its keys; None exactly before the first exchange.
     fn cipher(&self) -> Option<Cipher>
@@ -213,6 +236,10 @@ pub trait ClientSession {
     /// Whether an open key session has this engine connection.
     fn has_conn(&self, conn: Conn) -> bool
         ensures { (p : Peer) → stands self.now p → result ≡ is_some (open_with conn p) };
+
+    /// The engine connection of key session 0.
+    fn first_conn(&self) -> Option<Conn>
+        ensures { (p : Peer) → stands self.now p → result ≡ first_conn p };
 
     /// The open key session with this key id, if there is one.
     fn place(&self, kid: u8) -> Option<Place>
@@ -227,5 +254,6 @@ pub trait ClientSession {
         ensures closed { OnOk result ((p : Peer) → stands self.now p →
             Holds out.new (out.old.effects ++ actions_of p.role (closings p.sessions)) out.old.staged) }
         ensures kept { OnErr result (Holds out.new out.old.effects out.old.staged) }
-        ensures fits { HasRoom out.old 3 0 → IsOk result };
+        ensures fits { HasRoom out.old 3 0 → IsOk result }
+        ensures uses { Uses out.old out.new 3 0 };
 }

@@ -14,9 +14,9 @@ ghost use Rattle.peer_table.specs.ControlPackets.{Incoming, control_came};
 ghost use Rattle.peer_table.specs.DataPackets.{data_came, sealed_to};
 ghost use Rattle.peer_table.specs.EngineAnswers.{engine_came};
 ghost use Rattle.peer_table.specs.Exchange.{after_message, exchanged};
-ghost use Rattle.peer_table.specs.KeySessions.{Session};
-ghost use Rattle.peer_table.specs.Orderly.{IsOrderly, IsOrderlyFrom, IsOrderlyOrFixed, how_many, is_open};
-ghost use Rattle.peer_table.specs.Peer.{Peer, began, peer_begun};
+ghost use Rattle.peer_table.specs.KeySessions.{Session, is_open};
+ghost use Rattle.peer_table.specs.Orderly.{IsOrderly, IsOrderlyFrom, IsOrderlyOrFixed, how_many};
+ghost use Rattle.peer_table.specs.Peer.{Peer, began};
 ghost use Rattle.peer_table.specs.Time.{Ticking, all_closed, ticked};
 
 /// The key sessions of a client are orderly from its beginning on, and each call keeps them so: all but the
@@ -24,7 +24,7 @@ ghost use Rattle.peer_table.specs.Time.{Ticking, all_closed, ticked};
 /// the other end's session id, and no call changes it.
 pub fn key_sessions_are_orderly()
     ensures begins { (role : Role) (wraps : Wrapping) (own : Sid) (timers : Timers) (conn : Conn) (now : ℕ) →
-        IsOrderlyFrom None (began (peer_begun role wraps own timers conn now) conn now).peer }
+        IsOrderlyFrom None (began role wraps own timers conn now).peer }
     ensures control { (remote : Option Sid) (p : Peer) (i : Incoming) → IsOrderlyFrom remote p → IsOrderlyOrFixed remote i (control_came p i).peer }
     ensures engine { (remote : Option Sid) (kind : Kind) (now : ℕ) (p : Peer) → IsOrderlyFrom remote p → IsOrderlyFrom remote (engine_came kind now p).peer }
     ensures exchange { (remote : Option Sid) (policy : Policy) (peer_id : ℕ) (draw : Draw) (p : Peer) →

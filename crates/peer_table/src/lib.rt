@@ -6,6 +6,6 @@ mod client_session;
 mod laws;
 mod outcomes;
 
-pub use client_session::{ClientSession, Message};
+pub use client_session::ClientSession;
 pub use laws::{at_most_three_are_open, key_sessions_are_orderly};
-pub use outcomes::{Refused, SessionFault, Turn};
+pub use outcomes::{Message, Refused, SessionFault, Turn};

@@ -1,6 +1,6 @@
 //! What the calls of a client's session answer.
 
-use vpn_base::{Cause, Freshness};
+use vpn_base::{Cause, Conn, Freshness};
 
 /// What the owner of a client's session is to do after a call.
 #[derive(Clone, Copy, Debug, PartialEq, Eq)]
@@ -53,4 +53,13 @@ pub enum SessionFault {
         /// The greatest id that was accepted under the key.
         greatest: u32,
     },
+}
+
+/// A message behind a key exchange, without its NUL.
+#[derive(Clone, Copy)]
+pub struct Message<'a> {
+    /// The engine connection that it came on.
+    pub conn: Conn,
+    /// Its bytes.
+    pub bytes: &'a [u8],
 }

@@ -1,7 +1,6 @@
 -- How far a step has come, and the few things that all its cases do.
 use Rattle.std.specs.Prelude.{ℕ, suc, ◌+◌, ◌-◌, ◌^◌, min, List, [], ◌∷◌, ◌++◌, map}
 use Rattle.vpn_base.specs.declared.address.Addr.{Addr}
-use Rattle.vpn_base.specs.declared.names.Role.TheVariants.{Server}
 use Rattle.vpn_links.specs.Actions.{Action, Datagram, Report, on_wire}
 use Rattle.vpn_links.specs.declared.notes.Note.{Note}
 use Rattle.peer_table.specs.Places.{changed_at}
@@ -64,6 +63,6 @@ staged_to n to datagrams = map (λ bytes. record { number = n; datagram = record
 abbrev pub acted : {A : Type 0} → ℕ → Addr → Outcome A → Course → Course
 acted n to o c = record {
   table = record (with_client n (λ x. record x { session = o.peer }) c.table) { connections = c.table.connections + opened_by o.doings };
-  effects = c.effects ++ actions_of Server o.doings;
+  effects = c.effects ++ actions_of o.peer.role o.doings;
   staged = c.staged ++ staged_to n to o.datagrams;
 }

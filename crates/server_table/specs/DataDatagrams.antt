@@ -1,4 +1,4 @@
--- A data packet comes from the line.
+-- A data packet comes from the wire.
 use Rattle.std.specs.Prelude.{ℕ, ◌==◌, ◌&&◌, not, Bool, true, false, List, [], ◌∷◌, length, Option, Some, None, option_map, Result, Ok, Err}
 use Rattle.std.specs.Str.{bytes_eq}
 use Rattle.vpn_base.specs.declared.address.Addr.{Addr}
@@ -13,14 +13,14 @@ use Rattle.peer_table.specs.declared.outcomes.SessionFault.{SessionFault}
 use Rattle.peer_table.specs.declared.outcomes.SessionFault.TheVariants as faults
 use Rattle.peer_table.specs.KeySessions.{usable_with}
 use Rattle.peer_table.specs.Peer.{Outcome, Peer}
-use Rattle.peer_table.specs.DataPackets as session
+use Rattle.peer_table.specs.DataPackets as packets
 use Rattle.server_table.specs.Table.{Client, Table}
 use Rattle.server_table.specs.Lookups.{by_peer_id, by_session, cid, client_here, is_address}
 use Rattle.server_table.specs.Courses.{Course, counted, reported, with_client}
 use Rattle.server_table.specs.InnerPackets.{learned, queued, sealed_to}
 
 -- a datagram, where it came from, and whether there is no memory to learn a host of it
-pub record FromLine : Type 0 where
+pub record FromWire : Type 0 where
   pub from : Addr
   pub bytes : List ℕ
   pub lacks : Bool
@@ -76,8 +76,8 @@ moved n from x c = moved_if n from c (not (is_address x.address from) && not (is
 -- ---- whether it opens
 
 -- its bytes count, its client is heard
-abbrev pub with_heard : ℕ → Peer → ℕ → Client → Client
-with_heard now session bytes x = record x { session = session; heard = now; bytes_in = counted x.bytes_in bytes }
+abbrev pub with_opened : ℕ → Peer → ℕ → Client → Client
+with_opened now peer bytes x = record x { session = peer; heard = now; bytes_in = counted x.bytes_in bytes }
 
 -- the datagram went to this session of this client
 abbrev pub went_to : ℕ → Option ℕ → Table → Table
@@ -85,43 +85,43 @@ went_to n number t = record t { last_taken = option_map (λ k. (n, k)) number }
 
 -- the session to which a data packet goes
 abbrev pub data_session : Table → Client → List ℕ → Option ℕ
-data_session t x bytes = usable_with x.session.timers t.moment x.session.sessions (session.kid_in bytes)
+data_session t x bytes = usable_with x.session.timers t.moment x.session.sessions (packets.data_kid bytes)
 
 -- it opened, and its id was fresh
-abbrev pub accepted : FromLine → ℕ → Client → Course → Peer → Course
-accepted d n x c session = record c {
-  table = record (went_to n (data_session c.table x d.bytes) (with_client n (with_heard c.table.moment session (length d.bytes)) c.table))
+abbrev pub accepted : FromWire → ℕ → Client → Course → Peer → Course
+accepted d n x c peer = record c {
+  table = record (went_to n (data_session c.table x d.bytes) (with_client n (with_opened c.table.moment peer (length d.bytes)) c.table))
       { bytes_in = counted c.table.bytes_in (length d.bytes) };
 }
 
 -- why a data packet is refused
-abbrev pub refused : FromLine → ℕ → Client → Course → SessionFault → Course
+abbrev pub refused : FromWire → ℕ → Client → Course → SessionFault → Course
 refused d n x c (faults.BadKey kid) = reported (notes.BadKey (cid n) kid) c
 refused d n x c faults.NotSealed = reported (notes.NotSealed (cid n)) c
 refused d n x c (faults.Stale kind id greatest) =
     reported (notes.Stale (cid n) kind id greatest) (record c { table = went_to n (data_session c.table x d.bytes) c.table })
 
 -- whether the session took it: then the client may have moved, and the inner packet goes on
-abbrev pub opened_as : FromLine → ℕ → Client → Course → Peer → Result (List ℕ) SessionFault → Course
-opened_as d n x c session (Err fault) = refused d n x c fault
-opened_as d n x c session (Ok inner) = carried d.lacks n inner (moved n d.from x (accepted d n x c session))
+abbrev pub opened_as : FromWire → ℕ → Client → Course → Peer → Result (List ℕ) SessionFault → Course
+opened_as d n x c peer (Err fault) = refused d n x c fault
+opened_as d n x c peer (Ok inner) = carried d.lacks n inner (moved n d.from x (accepted d n x c peer))
 
 -- what the session answers
-abbrev pub opened : FromLine → ℕ → Client → Course → Outcome (Result (List ℕ) SessionFault) → Course
+abbrev pub opened : FromWire → ℕ → Client → Course → Outcome (Result (List ℕ) SessionFault) → Course
 opened d n x c o = opened_as d n x c o.peer o.answer
 
 -- the client of a number tries to open it
-abbrev pub data_for : FromLine → ℕ → Course → Option Client → Course
+abbrev pub data_for : FromWire → ℕ → Course → Option Client → Course
 data_for d n c None = c
-data_for d n c (Some x) = opened d n x c (session.data_came d.bytes (record { 0 = c.table.moment }) x.session)
+data_for d n c (Some x) = opened d n x c (packets.data_came d.bytes (record { 0 = c.table.moment }) x.session)
 
 -- the client with its peer id
-abbrev pub data_at : FromLine → ℕ → Course → Option ℕ → Course
+abbrev pub data_at : FromWire → ℕ → Course → Option ℕ → Course
 data_at d peer c None = reported (notes.UnknownPeer peer) c
 data_at d peer c (Some n) = data_for d n c (client_here c.table n)
 
 -- A data packet has come. Refused in this order: no client has its peer id, no usable session has its key id, it does not open, its id is
 -- stale. Else its id is accepted, its bytes count, and its client may have moved; a ping goes nowhere, and another inner packet goes by its
 -- verdict.
-unfoldable pub data_came : FromLine → DataForm → Course → Course
+unfoldable pub data_came : FromWire → DataForm → Course → Course
 data_came d f c = data_at d f.peer c (by_peer_id c.table f.peer)

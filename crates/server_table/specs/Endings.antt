@@ -2,7 +2,6 @@
 use Rattle.std.specs.Prelude.{ℕ, ◌==◌, not, false, List, [], ◌∷◌, ◌++◌, codes, Option, Some, None, filter}
 use Rattle.std.specs.Fmt.{decimal}
 use Rattle.vpn_base.specs.declared.names.Cause.{Cause}
-use Rattle.vpn_base.specs.declared.names.Role.TheVariants.{Server}
 use Rattle.vpn_links.specs.Actions.{Action, Report, Say}
 use Rattle.vpn_links.specs.declared.notes.Note.TheVariants.{Ended}
 use Rattle.peer_table.specs.declared.outcomes.Turn.{Turn}
@@ -22,7 +21,7 @@ disconnect_line n (Some e) = Say (codes ">CLIENT:DISCONNECT," ++ decimal n) ∷ 
 -- the note with its cause, that line, and each open connection closed
 abbrev pub ending_effects : ℕ → Cause → Client → List Action
 ending_effects n cause x =
-    Report (Ended (cid n) cause) ∷ disconnect_line n x.established ++ actions_of Server (closings x.session.sessions)
+    Report (Ended (cid n) cause) ∷ disconnect_line n x.established ++ actions_of x.session.role (closings x.session.sessions)
 
 -- a client that has ended: it is not here, and its sessions are closed
 abbrev pub gone : Client → Client

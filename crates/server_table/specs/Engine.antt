@@ -24,7 +24,7 @@ use Rattle.server_table.specs.Lookups.{by_connection, cid, client_here}
 use Rattle.server_table.specs.Courses.{Course, acted, client_changed, did, reported}
 use Rattle.server_table.specs.Endings.{ended, turned}
 use Rattle.server_table.specs.Establishing.{name_in}
-use Rattle.server_table.specs.Exchange.{exchange, talked}
+use Rattle.server_table.specs.Exchange.{exchange, messages_taken}
 
 -- ---- the client's file
 
@@ -41,7 +41,7 @@ abbrev pub asked_in : ℕ → List ℕ → Course → Option (List ℕ) → Cour
 asked_in n name c None = file_is n (Known no_ccd) c
 asked_in n name c (Some folder) = asked_for n name c
 
--- once
+-- a file is asked for where none was asked for before
 abbrev pub asked_once : ℕ → Client → Course → FileState → Course
 asked_once n x c Unasked = asked_in n (name_in x) c c.table.settings.ccd
 asked_once n x c (Awaited name) = c
@@ -59,8 +59,8 @@ asked n c = asked_by n c (client_here c.table n)
 -- ---- the end of a step
 
 -- as many bytes may stay unread
-abbrev pub most_kept : ℕ
-most_kept = 8192
+abbrev pub unread_limit : ℕ
+unread_limit = 8192
 
 -- too many of them end the client
 abbrev pub unread_if : ℕ → Course → Bool → Course
@@ -70,7 +70,7 @@ unread_if n c true = ended n Unread c
 -- the same for the client as it is now
 abbrev pub unread_of : ℕ → Course → Option Client → Course
 unread_of n c None = c
-unread_of n c (Some x) = unread_if n c (nat_lt most_kept (most_unread x.session.sessions))
+unread_of n c (Some x) = unread_if n c (nat_lt unread_limit (most_unread x.session.sessions))
 
 -- how much the client of this number has left unread
 unfoldable pub unread_judged : ℕ → Course → Course
@@ -80,7 +80,7 @@ unread_judged n c = unread_of n c (client_here c.table n)
 
 -- what follows plain text or a name, by what the session answers
 abbrev pub gone_on : Draw → ℕ → Course → Turn → Course
-gone_on draw n c Going = unread_judged n (talked n c)
+gone_on draw n c Going = unread_judged n (messages_taken n c)
 gone_on draw n c Ignored = reported (notes.Ignored (cid n)) c
 gone_on draw n c Named = unread_judged n (asked n c)
 gone_on draw n c Exchange = unread_judged n (exchange draw n (asked n c))
@@ -142,12 +142,12 @@ file_read draw n c (Ok file) = file_accepted draw n c file file.disable
 abbrev pub default_name : List ℕ
 default_name = codes "DEFAULT"
 
--- no file of the client's name: the one for all is asked for, once; with none of either the client has no file
+-- a missing file that was the one for all, and then the client has none; or that of the client's name, and then the one for all is asked for
 abbrev pub file_missing : Draw → ℕ → Course → Bool → Course
 file_missing draw n c true = file_known draw n no_ccd c
 file_missing draw n c false = asked_for n default_name c
 
--- where each client needs a file of its own, a missing one ends it
+-- a missing file: where each client needs one of its own, that ends it
 abbrev pub file_lacking : Draw → ℕ → List ℕ → Course → Bool → Course
 file_lacking draw n name c true = ended n NoCcd c
 file_lacking draw n name c false = file_missing draw n c (bytes_eq name default_name)

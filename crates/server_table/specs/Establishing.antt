@@ -66,8 +66,8 @@ ccd_in Unasked = no_ccd
 -- ---- the push reply
 
 -- the cipher of a client's keys
-abbrev pub cipher_in : Client → Cipher
-cipher_in x = unwrap_or (cipher_of x.session) Aes256Gcm
+abbrev pub client_cipher : Client → Cipher
+client_cipher x = unwrap_or (cipher_of x.session) Aes256Gcm
 
 -- what is pushed to a client with this address
 abbrev pub plan_of : Settings → Client → Leased → Plan
@@ -80,7 +80,7 @@ plan_of s x a = record {
   address = a.0;
   len = a.1;
   peer = x.peer_id;
-  cipher = cipher_in x;
+  cipher = client_cipher x;
 }
 
 -- each part is written on the connection, ended by a NUL
@@ -128,17 +128,17 @@ establishing_lines n x a = established_line n ∷ address_line n a ∷ map (netw
 -- ---- in order
 
 -- a client with this address in the tunnel
-abbrev pub with_established : Ip4 → ℕ → Client → Client
-with_established a now x = record x { established = Some (record { address = a; since = now }); sealed_at = now }
+abbrev pub with_address : Ip4 → ℕ → Client → Client
+with_address a now x = record x { established = Some (record { address = a; since = now }); sealed_at = now }
 
 -- it has an address: its rows are added, the reply is written, a manager is told
 abbrev pub established_at : ℕ → Conn → Client → Course → Leased → Course
 established_at n conn x c a = record c {
-  table = record (with_client n (with_established a.0 c.table.moment) c.table) { routes = with_rows (rows_of (cid n) (networks_of x a.0)) c.table.routes };
+  table = record (with_client n (with_address a.0 c.table.moment) c.table) { routes = with_rows (rows_of (cid n) (networks_of x a.0)) c.table.routes };
   effects = c.effects ++ (reply c.table.settings x a conn ++ establishing_lines n x a.0);
 }
 
--- where there is an address
+-- with an address the client is established, with none it ends
 abbrev pub established_with : ℕ → Conn → Client → Course → Option Leased → Course
 established_with n conn x c (Some a) = established_at n conn x c a
 established_with n conn x c None = ended n PoolEmpty c
@@ -157,7 +157,7 @@ abbrev pub replaced : ℕ → Course → Option ℕ → Course
 replaced n c None = c
 replaced n c (Some m) = ended m (Replaced (cid n)) c
 
--- unless several clients may have one name
+-- nobody is replaced where several clients may have one name
 abbrev pub replaced_unless : ℕ → List ℕ → Course → Bool → Course
 replaced_unless n name c true = c
 replaced_unless n name c false = replaced n c (established_named c.table name)
@@ -172,5 +172,5 @@ establishing n conn c None = c
 establishing n conn c (Some x) = established_now n conn (replaced_unless n (name_in x) c c.table.settings.duplicate)
 
 -- the client of this number is established, if it is here
-unfoldable pub established : ℕ → Conn → Course → Course
-established n conn c = establishing n conn c (client_here c.table n)
+unfoldable pub client_established : ℕ → Conn → Course → Course
+client_established n conn c = establishing n conn c (client_here c.table n)

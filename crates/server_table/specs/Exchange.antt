@@ -1,5 +1,5 @@
 -- A client's key exchange, and the messages behind it.
-use Rattle.std.specs.Prelude.{ℕ, zero, suc, ◌&&◌, is_none, Bool, true, false, List, [], ◌∷◌, length, codes, Option, Some, None, slice_get}
+use Rattle.std.specs.Prelude.{ℕ, zero, suc, ◌&&◌, is_none, Bool, true, false, List, [], ◌∷◌, length, codes, Option, Some, None}
 use Rattle.std.specs.List.{sum_by}
 use Rattle.std.specs.Str.{bytes_eq}
 use Rattle.vpn_base.specs.declared.names.Cipher.{Cipher}
@@ -9,14 +9,13 @@ use Rattle.vpn_base.specs.declared.names.Policy.{Policy}
 use Rattle.vpn_base.specs.declared.names.Policy.TheVariants.{Fixed}
 use Rattle.vpn_links.specs.declared.notes.Note.TheVariants as notes
 use Rattle.peer_table.specs.declared.outcomes.Turn.{Turn}
-use Rattle.peer_table.specs.Exchange.{after_message, cipher_of, exchanged, next_message, unread}
-use Rattle.peer_table.specs.KeySessions.{Session}
+use Rattle.peer_table.specs.Exchange.{after_message, first_conn, cipher_of, exchanged, next_message, unread}
 use Rattle.peer_table.specs.Peer.{Outcome}
 use Rattle.server_table.specs.Table.{Awaited, Client, Established, FileState, Known, Unasked}
 use Rattle.server_table.specs.Lookups.{cid, client_here}
 use Rattle.server_table.specs.Courses.{Course, acted, client_changed, did_all, reported}
 use Rattle.server_table.specs.Endings.{turned}
-use Rattle.server_table.specs.Establishing.{ccd_in, established, leased_to, reply}
+use Rattle.server_table.specs.Establishing.{ccd_in, client_established, leased_to, reply}
 
 -- ---- messages behind a key exchange
 
@@ -26,7 +25,7 @@ push_request = codes "PUSH_REQUEST"
 
 -- the reply to a client once more, or else it is established
 abbrev pub requested_as : ℕ → Conn → Client → Course → Option Established → Course
-requested_as n conn x c None = established n conn c
+requested_as n conn x c None = client_established n conn c
 requested_as n conn x c (Some e) = did_all (reply c.table.settings x (leased_to c.table.settings (ccd_in x.file).address e) conn) c
 
 -- it is answered: the same reply again where the client is established, which else it is now
@@ -40,37 +39,37 @@ other_message n conn c true = requested n conn c (client_here c.table n)
 other_message n conn c false = reported (notes.Ignored (cid n)) c
 
 -- a message on this connection; an empty one does nothing
-abbrev pub heard : ℕ → Course → Conn → List ℕ → Course
-heard n c conn [] = c
-heard n c conn (b ∷ bytes) = other_message n conn c (bytes_eq (b ∷ bytes) push_request)
+abbrev pub message_came : ℕ → Course → Conn → List ℕ → Course
+message_came n c conn [] = c
+message_came n c conn (b ∷ bytes) = other_message n conn c (bytes_eq (b ∷ bytes) push_request)
 
 -- the next message, if one waits, with what comes behind it
-abbrev pub talked_of : (Course → Course) → ℕ → Course → Option (Conn × List ℕ) → Course
-talked_of behind n c None = c
-talked_of behind n c (Some m) = behind (heard n (client_changed n (λ x. record x { session = after_message x.session }) c) m.0 m.1)
+abbrev pub messages_taken_of : (Course → Course) → ℕ → Course → Option (Conn × List ℕ) → Course
+messages_taken_of behind n c None = c
+messages_taken_of behind n c (Some m) = behind (message_came n (client_changed n (λ x. record x { session = after_message x.session }) c) m.0 m.1)
 
 -- the same for the client as it is now
-abbrev pub talked_by : (Course → Course) → ℕ → Course → Option Client → Course
-talked_by behind n c None = c
-talked_by behind n c (Some x) = talked_of behind n c (next_message x.session)
+abbrev pub messages_taken_by : (Course → Course) → ℕ → Course → Option Client → Course
+messages_taken_by behind n c None = c
+messages_taken_by behind n c (Some x) = messages_taken_of behind n c (next_message x.session)
 
 -- every message that waits at the client of this number, in order; no more than so many
-unfoldable pub talked_upto : ℕ → ℕ → Course → Course
-talked_upto zero n c = c
-talked_upto (suc most) n c = talked_by (talked_upto most n) n c (client_here c.table n)
+unfoldable pub messages_taken_upto : ℕ → ℕ → Course → Course
+messages_taken_upto zero n c = c
+messages_taken_upto (suc most) n c = messages_taken_by (messages_taken_upto most n) n c (client_here c.table n)
 
 -- more messages can't wait than there are bytes that were not read
 abbrev pub most_messages : Client → ℕ
 most_messages x = sum_by (λ s. length (unread s)) x.session.sessions
 
 -- as many as may wait at a client
-abbrev pub talked_for : ℕ → Course → Option Client → Course
-talked_for n c None = c
-talked_for n c (Some x) = talked_upto (most_messages x) n c
+abbrev pub messages_taken_for : ℕ → Course → Option Client → Course
+messages_taken_for n c None = c
+messages_taken_for n c (Some x) = messages_taken_upto (most_messages x) n c
 
 -- every message that waits at the client of this number, in order
-unfoldable pub talked : ℕ → Course → Course
-talked n c = talked_for n c (client_here c.table n)
+unfoldable pub messages_taken : ℕ → Course → Course
+messages_taken n c = messages_taken_for n c (client_here c.table n)
 
 -- ---- the key exchange
 
@@ -79,28 +78,28 @@ abbrev pub policy_with : Policy → Option Cipher → Policy
 policy_with ours None = ours
 policy_with ours (Some cipher) = Fixed cipher
 
--- the connection of a session
-abbrev pub conn_of : Option Session → Conn
-conn_of None = record { 0 = 0 }
-conn_of (Some s) = s.link.conn
+-- each client has a session 0
+abbrev pub established_on : ℕ → Course → Option Conn → Course
+established_on n c None = c
+established_on n c (Some conn) = client_established n conn c
 
 -- a client whose message asks for it is established at once, on the connection of session 0
 abbrev pub established_if : ℕ → Course → Client → Bool → Course
 established_if n c x false = c
-established_if n c x true = established n (conn_of (slice_get x.session.sessions 0)) c
+established_if n c x true = established_on n c (first_conn x.session)
 
 -- whether it asks, and is not established
-abbrev pub asks_now : Client → Bool
-asks_now x = x.session.asks && is_none x.established
+abbrev pub asks_to_be_established : Client → Bool
+asks_to_be_established x = x.session.asks_push && is_none x.established
 
 -- the same for the client as it is now
-abbrev pub asked_to_establish : ℕ → Course → Option Client → Course
-asked_to_establish n c None = c
-asked_to_establish n c (Some x) = established_if n c x (asks_now x)
+abbrev pub established_as_asked : ℕ → Course → Option Client → Course
+established_as_asked n c None = c
+established_as_asked n c (Some x) = established_if n c x (asks_to_be_established x)
 
 -- the exchange was made, or has ended the client
 abbrev pub exchange_made : ℕ → Course → Course
-exchange_made n c = talked n (asked_to_establish n c (client_here c.table n))
+exchange_made n c = messages_taken n (established_as_asked n c (client_here c.table n))
 
 -- the session makes its exchange
 abbrev pub exchange_acted : ℕ → Client → Course → Outcome Turn → Course

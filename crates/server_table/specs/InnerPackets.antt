@@ -5,7 +5,7 @@ use Rattle.vpn_links.specs.Actions.{Device, Wire}
 use Rattle.vpn_links.specs.declared.notes.Note.TheVariants.{KeySpent, NotLearned, QueueFull}
 use Rattle.packet_ids.specs.declared.sending.Spent.{Spent}
 use Rattle.peer_table.specs.Peer.{Outcome, Peer}
-use Rattle.peer_table.specs.DataPackets as session
+use Rattle.peer_table.specs.DataPackets as packets
 use Rattle.route_table.specs.Learned.{is_learned, with_host}
 use Rattle.server_table.specs.Table.{Client, Established}
 use Rattle.server_table.specs.Lookups.{cid, client_here}
@@ -14,18 +14,18 @@ use Rattle.server_table.specs.Courses.{Course, counted, did, reported, with_clie
 -- ---- to a client
 
 -- a packet was sealed to a client
-abbrev pub with_sealed : ℕ → Peer → ℕ → Client → Client
-with_sealed now session bytes x = record x { session = session; sealed_at = now; bytes_out = counted x.bytes_out bytes }
+abbrev pub with_sent : ℕ → Peer → ℕ → Client → Client
+with_sent now peer bytes x = record x { session = peer; sealed_at = now; bytes_out = counted x.bytes_out bytes }
 
 -- it goes to the client's address, where packet ids are left
 abbrev pub sealed_as : ℕ → Client → Course → Peer → Result (List ℕ) Spent → Course
-sealed_as n x c session (Ok datagram) =
+sealed_as n x c peer (Ok datagram) =
     did (Wire x.address datagram)
     (record c {
-      table = record (with_client n (with_sealed c.table.moment session (length datagram)) c.table)
+      table = record (with_client n (with_sent c.table.moment peer (length datagram)) c.table)
           { bytes_out = counted c.table.bytes_out (length datagram) };
     })
-sealed_as n x c session (Err spent) = reported (KeySpent (cid n)) c
+sealed_as n x c peer (Err spent) = reported (KeySpent (cid n)) c
 
 -- what came of sealing
 abbrev pub sealed_with : ℕ → Client → Course → Outcome (Result (List ℕ) Spent) → Course
@@ -34,7 +34,7 @@ sealed_with n x c o = sealed_as n x c o.peer o.answer
 -- a client that is not here owns nothing
 abbrev pub sealed_for : ℕ → List ℕ → Course → Option Client → Course
 sealed_for n inner c None = c
-sealed_for n inner c (Some x) = sealed_with n x c (session.sealed_to inner x.session)
+sealed_for n inner c (Some x) = sealed_with n x c (packets.sealed_to inner x.session)
 
 -- an inner packet is sealed to the client of this number, under its newest usable keys
 unfoldable pub sealed_to : ℕ → List ℕ → Course → Course
@@ -47,13 +47,13 @@ abbrev pub most_queued : ℕ
 most_queued = 64
 
 -- it waits behind those that wait, or the queue is full
-abbrev pub queued_if : ℕ → List ℕ → Course → Bool → Course
-queued_if n inner c true = reported (QueueFull (cid n)) c
-queued_if n inner c false = record c { table = record c.table { queue = c.table.queue ++ inner ∷ [] } }
+abbrev pub queued_unless_full : ℕ → List ℕ → Course → Bool → Course
+queued_unless_full n inner c true = reported (QueueFull (cid n)) c
+queued_unless_full n inner c false = record c { table = record c.table { queue = c.table.queue ++ inner ∷ [] } }
 
 -- a packet of the client of this number is for the device
 unfoldable pub queued : ℕ → List ℕ → Course → Course
-queued n inner c = queued_if n inner c (nat_le most_queued (length c.table.queue))
+queued n inner c = queued_unless_full n inner c (nat_le most_queued (length c.table.queue))
 
 -- the oldest packet that waits is given to the device
 abbrev pub dequeued : Course → List (List ℕ) → Course
@@ -76,14 +76,14 @@ abbrev pub is_host : Ip4 → Client → Bool
 is_host host x = not (is_own host x.established)
 
 -- a host that needs memory, which is not there, is left out
-abbrev pub learned_if : ℕ → Ip4 → Course → Bool → Course
-learned_if n host c true = reported (NotLearned (cid n) host) c
-learned_if n host c false = record c { table = record c.table { routes = with_host host (cid n) c.table.routes } }
+abbrev pub learned_unless_lacking : ℕ → Ip4 → Course → Bool → Course
+learned_unless_lacking n host c true = reported (NotLearned (cid n) host) c
+learned_unless_lacking n host c false = record c { table = record c.table { routes = with_host host (cid n) c.table.routes } }
 
--- where it is to be learned
+-- nothing is learned where the source is no host that is to be learned
 abbrev pub learned_where : Bool → ℕ → Ip4 → Course → Bool → Course
 learned_where lacks n host c false = c
-learned_where lacks n host c true = learned_if n host c (lacks && not (is_learned c.table.routes.learned host))
+learned_where lacks n host c true = learned_unless_lacking n host c (lacks && not (is_learned c.table.routes.learned host))
 
 -- whether a client's packet has a source that is to be learned
 abbrev pub is_host_of : Ip4 → Option Client → Bool

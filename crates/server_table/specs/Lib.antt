@@ -12,3 +12,5 @@ pub mod Time
 pub mod Step
 pub mod Runs
 pub mod Senders
+pub mod Sealed
+pub mod Sound

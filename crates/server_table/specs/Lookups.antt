@@ -1,6 +1,6 @@
--- How clients are found, each as the first that fits. No two clients that are here fit alike.
-use Rattle.std.specs.Prelude.{ℕ, ◌+◌, ◌==◌, ◌&&◌, nat_le, not, is_some, Bool, false, List, length, Option, Some, None, slice_get, filter_map, count_by, unwrap_or, if◌then◌else◌}
-use Rattle.std.specs.List.{find, list_any, range_with_len}
+-- How clients are found, each as the first that fits. No two clients that are here fit alike, but by name where several may have one.
+use Rattle.std.specs.Prelude.{ℕ, zero, suc, max, true, false, [], ◌∷◌, ◌==◌, ◌&&◌, nat_le, is_some, Bool, false, List, Option, Some, None, slice_get, filter_map, count_by, if◌then◌else◌}
+use Rattle.std.specs.List.{list_any}
 use Rattle.std.specs.Option.{option_map}
 use Rattle.std.specs.Str.{bytes_eq}
 use Rattle.vpn_base.specs.declared.address.Addr.{Addr}
@@ -79,10 +79,24 @@ established_named t name = first_place (is_established_as name) t.clients
 unfoldable pub is_full : Table → Bool
 is_full t = nat_le t.settings.max_clients (count_by (λ x. x.is_here) t.clients)
 
--- the least peer id that no client has
+-- a number, or a later one where a client has it
+abbrev pub unless_used : Bool → ℕ → ℕ → ℕ
+unless_used true n later = later
+unless_used false n later = n
+
+-- of so many numbers from this one on the first that no client has as its peer id, or the one behind them
+abbrev pub unused_from : ℕ → ℕ → List Client → ℕ
+unused_from zero n clients = n
+unused_from (suc most) n clients = unless_used (list_any (has_peer_id n) clients) n (unused_from most (suc n) clients)
+
+-- the greatest peer id that a client ever had
+abbrev pub greatest_peer_id : List Client → ℕ
+greatest_peer_id [] = 0
+greatest_peer_id (x ∷ clients) = max x.peer_id (greatest_peer_id clients)
+
+-- the least peer id that no client has: the one behind the greatest is free
 unfoldable pub free_peer_id : Table → ℕ
-free_peer_id t =
-    unwrap_or (find (λ n. not (list_any (has_peer_id n) t.clients)) (range_with_len 0 (length t.clients + 1))) (length t.clients)
+free_peer_id t = unused_from (suc (greatest_peer_id t.clients)) 0 t.clients
 
 -- the address in the tunnel of a client that is here and established
 abbrev pub address_in : Client → Option Ip4

@@ -55,12 +55,12 @@ run t (entry ∷ entries) = outs_at t entry ∷ run (after t entry) entries
 
 -- ---- which events may lack
 
--- events that take no memory, by their kind
+-- whether a datagram is a data packet
 abbrev pub is_free_packet : Result PacketForm Malformed → Bool
 is_free_packet (Ok (Inner f)) = true
 is_free_packet _ = false
 
--- a data packet, a packet of the device, a device that is ready, the end
+-- events that take no memory, by their kind: a data packet, a packet of the device, a device that is ready, the end
 abbrev pub is_free_kind : Kind → Bool
 is_free_kind (Datagram from bytes) = is_free_packet (packet_of bytes)
 is_free_kind (DeviceIn bytes) = true

@@ -5,23 +5,16 @@ use Rattle.vpn_base.specs.declared.address.Addr.{Addr}
 use Rattle.vpn_base.specs.declared.names.Place.{Place}
 use Rattle.sealed_packet.specs.SealedPacket.{peer_in}
 use Rattle.peer_table.specs.Places.{first_place}
-use Rattle.peer_table.specs.KeySessions.{Session}
-use Rattle.peer_table.specs.Peer.{Peer}
-use Rattle.peer_table.specs.Naming.{place, place_of}
+use Rattle.peer_table.specs.Naming.{place, place_numbered}
 use Rattle.server_table.specs.Table.{Client, Table}
 use Rattle.server_table.specs.Lookups.{is_address}
 
 -- ---- where the last datagram went
 
--- the place of a session of a peer
-abbrev pub place_in : Peer → ℕ → Option Session → Option Place
-place_in p k None = None
-place_in p k (Some s) = Some (place_of p k s)
-
--- of a client
+-- a key session of a client by its number
 abbrev pub place_at : ℕ → Option Client → Option Place
 place_at k None = None
-place_at k (Some x) = place_in x.session k (slice_get x.session.sessions k)
+place_at k (Some x) = place_numbered k x.session
 
 -- of a client and a session by their numbers
 abbrev pub place_by : Table → Option (ℕ × ℕ) → Option Place
@@ -29,8 +22,8 @@ place_by t None = None
 place_by t (Some went) = place_at went.1 (slice_get t.clients went.0)
 
 -- the key session to which the datagram of the last step went: a control packet that no test refused, or a data packet that opened
-unfoldable pub last_taken : Table → Option Place
-last_taken t = place_by t t.last_taken
+unfoldable pub last_taken_place : Table → Option Place
+last_taken_place t = place_by t t.last_taken
 
 -- ---- who sent a datagram
 

@@ -14,7 +14,7 @@ use Rattle.inner_verdict.specs.Verdict.{verdict}
 use Rattle.server_table.specs.Table.{Table}
 use Rattle.server_table.specs.Courses.{Course, did, reported}
 use Rattle.server_table.specs.InnerPackets.{device_ready, sealed_to}
-use Rattle.server_table.specs.DataDatagrams.{FromLine, data_came}
+use Rattle.server_table.specs.DataDatagrams.{FromWire, data_came}
 use Rattle.server_table.specs.ControlDatagrams.{control_arrived, first_of}
 use Rattle.server_table.specs.Engine.{engine_answered, engine_is_down, file_came}
 use Rattle.server_table.specs.Time.{tick}
@@ -22,7 +22,7 @@ use Rattle.server_table.specs.Time.{tick}
 -- ---- a datagram
 
 -- by what packet it is
-abbrev pub datagram_as : FromLine → Draw → Course → Result PacketForm Malformed → Course
+abbrev pub datagram_as : FromWire → Draw → Course → Result PacketForm Malformed → Course
 datagram_as d draw c (Err e) = reported (notes.Malformed e (first_of d.bytes)) c
 datagram_as d draw c (Ok (Wrapped op kid sid)) = control_arrived d draw op c
 datagram_as d draw c (Ok (Inner f)) = data_came d f c
@@ -45,7 +45,7 @@ device_came inner c = device_passed inner c (verdict c.table.routes.rows c.table
 
 -- ---- the management interface, of which these three cases are built
 
--- a line that is not empty
+-- a line that is not empty: whether it is too long
 abbrev pub line_said : Course → Bool → Course
 line_said c true = did (Say (codes "ERROR: command too long")) c
 line_said c false = did (Say (codes "ERROR: unknown command")) c

@@ -20,7 +20,7 @@ pub record Established : Type 0 where
 
 -- One client: whether it is here still, the peer id by which its data packets name it, the address that its datagrams come from,
 -- its session, its file, its address in the tunnel once it is established, the moment of its last fresh packet or else of its admission,
--- the moment of the last packet that was sealed to it or else of its establishing, and how many bytes its data packets had, those that
+-- the moment of the last packet that was sealed to it or else of its establishing or admission, and how many bytes its data packets had, those that
 -- opened fresh and those that were sealed to it. A client that has ended stays as it was then, with its sessions closed.
 pub record Client : Type 0 where
   pub is_here : Bool

@@ -1,10 +1,11 @@
 -- Time passes: for each client in order, and for the byte counts.
-use Rattle.std.specs.Prelude.{ℕ, zero, suc, ◌+◌, ◌*◌, ◌==◌, ◌&&◌, nat_le, not, is_some, Bool, true, false, List, [], ◌∷◌, ◌++◌, length, codes, Option, Some, None}
+use Rattle.std.specs.Prelude.{ℕ, zero, suc, ◌*◌, ◌==◌, ◌&&◌, not, is_some, Bool, true, false, List, [], ◌∷◌, ◌++◌, length, codes, Option, Some, None}
 use Rattle.std.specs.Fmt.{decimal}
 use Rattle.vpn_links.specs.Actions.{Action, Say}
 use Rattle.peer_table.specs.declared.outcomes.Turn.{Turn}
+use Rattle.peer_table.specs.KeySessions.{has_passed}
 use Rattle.peer_table.specs.Peer.{Outcome}
-use Rattle.peer_table.specs.Time.{Ticking, ticked}
+use Rattle.peer_table.specs.Time.{Ticking, ticked, ticking}
 use Rattle.server_table.specs.Table.{Client, Table}
 use Rattle.server_table.specs.Lookups.{client_here}
 use Rattle.server_table.specs.Courses.{Course, acted, did_all}
@@ -13,10 +14,6 @@ use Rattle.server_table.specs.InnerPackets.{sealed_to}
 use Rattle.server_table.specs.DataDatagrams.{ping}
 
 -- ---- one client
-
--- whether at least so many seconds have passed since a moment
-abbrev pub has_passed : ℕ → ℕ → ℕ → Bool
-has_passed seconds since now = nat_le (since + 1000 * seconds) now
 
 -- with `keepalive`, a client is idle of which nothing fresh has come for twice the restart time
 abbrev pub is_idle : Option (ℕ × ℕ) → ℕ → Client → Bool
@@ -39,13 +36,9 @@ pinged n c None = c
 pinged n c (Some x) = pinged_if n c (ping_is_due c.table.settings.keepalive c.table.moment x)
 
 -- the moment as it comes to a client
-abbrev pub ticking : Table → Client → Ticking
-ticking t x = record {
-  at = t.moment;
-  next_conn = record { 0 = t.connections };
-  established = is_some x.established;
-  idle = is_idle t.settings.keepalive t.moment x;
-}
+abbrev pub ticking_for : Table → Client → Ticking
+ticking_for t x =
+    ticking t.moment (record { 0 = t.connections }) (is_some x.established) (is_idle t.settings.keepalive t.moment x)
 
 -- once its session has answered, which may end it, it may be due a ping
 abbrev pub then_pinged : ℕ → Course → Course
@@ -58,7 +51,7 @@ tick_acted n x c o = then_pinged n (turned n o.answer (acted n x.address o c))
 -- a client that is here
 abbrev pub tick_for : ℕ → Course → Option Client → Course
 tick_for n c None = c
-tick_for n c (Some x) = tick_acted n x c (ticked (ticking c.table x) x.session)
+tick_for n c (Some x) = tick_acted n x c (ticked (ticking_for c.table x) x.session)
 
 -- time has passed for the client of this number
 unfoldable pub client_ticked : ℕ → Course → Course

@@ -1,9 +1,9 @@
 use Rattle.peer_table.proofs.laws.key_sessions_are_orderly.Goals as goal
 use Rattle.peer_table.proofs.Calls.{control_orderly, data_orderly, engine_orderly, exchange_orderly, message_orderly, sealed_orderly}
-use Rattle.peer_table.proofs.Ticks.{began_orderly, begun_orderly, closed_orderly, tick_orderly}
+use Rattle.peer_table.proofs.Ticks.{began_orderly, closed_orderly, tick_orderly}
 
 pub returns-clause-begins : goal.returns-clause-begins
-returns-clause-begins c = λ role wraps own timers conn now. began_orderly _ conn now (begun_orderly role wraps own timers conn now)
+returns-clause-begins c = λ role wraps own timers conn now. began_orderly role wraps own timers conn now
 
 pub returns-clause-control : goal.returns-clause-control
 returns-clause-control c = λ remote p i is. control_orderly p i is
