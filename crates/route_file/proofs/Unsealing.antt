@@ -6,8 +6,8 @@ use Rattle.gcm_seal.specs.Gcm.{cipher_text, gcm, inc32, pre_counter_block}
 use Rattle.gcm_seal.specs.Laws.{gcm_lengths, gctr_twice}
 use Rattle.opcode_codec.specs.DataPacket.{DataForm, IsData, data_head, data_packet}
 use Rattle.sealed_packet.specs.SealedPacket.{Opens, nonce, packet, peer_in}
-use Rattle.sealed_packet.specs.Parts.{readable, id_in, id_read, peer_read, text_read}
-use Rattle.sealed_packet.specs.Laws.{form_opened, is_form_opened, readable_opened, sealed_opens, sealed_peer}
+use Rattle.sealed_packet.proofs.Parts.{readable, id_in, id_read, peer_read, text_read}
+use Rattle.sealed_packet.proofs.Laws.{form_opened, is_form_opened, readable_opened, sealed_opens, sealed_peer}
 use Rattle.route_file.specs.Opening.{opened, plain_text}
 
 -- a cipher text's plain text

@@ -3,7 +3,7 @@ use Rattle.std.proofs.lemmas.List.{take_at, take_rest}
 use Rattle.gcm_seal.specs.AnyGcm.{key_of}
 use Rattle.gcm_seal.specs.Gcm.{gcm}
 use Rattle.opcode_codec.specs.DataPacket.{data_form, data_packet}
-use Rattle.sealed_packet.specs.Parts.{peer_read, readable}
+use Rattle.sealed_packet.proofs.Parts.{peer_read, readable}
 use Rattle.sealed_packet.specs.SealedPacket.{Opens, peer_in}
 use Rattle.route_file.specs.Keys.{PacketKey}
 use Rattle.route_file.specs.Opening.{opened}

@@ -2,11 +2,15 @@
 use Rattle.std.proofs.Common.{◌≡◌, ℕ, ◌^◌, ◌<◌, List, length, take, drop, subst, sym, ap, ◌∙◌}
 use Rattle.opcode_codec.specs.DataPacket.{DataForm, data_head, data_packet}
 use Rattle.sealed_packet.specs.SealedPacket.{Opens, Sealing, form, id_in, nonce, packet, peer_in, sealed_inner}
-use Rattle.sealed_packet.specs.Parts.{IsReadable, peer_read, id_read, tag_read, text_read}
+use Rattle.sealed_packet.proofs.Parts.{IsReadable, peer_read, id_read, tag_read, text_read}
 
 -- a sealing's tag has 16 bytes
 abbrev pub Lengths : Sealing → Type 0
 Lengths sealed = (n aad plain : List ℕ) → (length (sealed n aad plain).text ≡ length plain) × (length (sealed n aad plain).tag ≡ 16)
+
+-- no two plain texts seal to one cipher text and tag
+abbrev pub OnePlain : Sealing → Type 0
+OnePlain sealed = (n aad a b : List ℕ) → sealed n aad a ≡ sealed n aad b → a ≡ b
 
 -- the form of what opens
 abbrev pub form_opened : Sealing → List ℕ → ℕ → List ℕ → ℕ → List ℕ → DataForm
@@ -50,7 +54,7 @@ only_authentic sealed implicit f datagram inner id lengths fits is opens =
 
 -- at most one inner packet opens
 pub one_opens : (sealed : Sealing) (implicit : List ℕ) (kid : ℕ) (datagram : List ℕ) (i j : ℕ) (p q : List ℕ) → Lengths sealed →
-    ((n aad a b : List ℕ) → sealed n aad a ≡ sealed n aad b → a ≡ b) →
+    OnePlain sealed →
     Opens sealed implicit kid datagram i p → Opens sealed implicit kid datagram j q → (i ≡ j) × (p ≡ q)
 one_opens sealed implicit kid datagram i j p q lengths one_plain first second =
     let f = form_opened sealed implicit kid datagram j q in
