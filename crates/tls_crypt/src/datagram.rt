@@ -16,6 +16,7 @@ impl Datagram<'_> {
     ghost use Rattle.std.specs.Borrow.{sem};
     ghost use Rattle.tls_crypt.specs.Lending.{IsKeptIfRefused};
     ghost use Rattle.tls_crypt.specs.Packets.{IsWrappedByNone};
+    ghost use Rattle.tls_crypt.specs.Unwrapping.{unwrapped_view, unwrapping};
 
     /// Unwraps the datagram, and answers the packet, whose plain text stays in the datagram.
     ///
@@ -26,6 +27,7 @@ impl Datagram<'_> {
         ensures opened { IfOk result (λ o.
             self.old.bytes.now ≡ W.unwrapped wrap.now o.first o.sid.0 o.id o.time o.plain.now) }
         ensures refused { IsErrOf result Unwrap.NotWrapped → IsWrappedByNone (W.unwrapped wrap.now) self.old.bytes.now }
+        ensures exact { unwrapping (W.unwrapped wrap.now) self.old.bytes.now ≡ unwrapped_view result }
         ensures short { IsErrOf result Unwrap.Short ↔ (length self.old.bytes.now < 49) }
     {
         match wrap.unwrap_in_place(self.bytes) {

@@ -1,5 +1,5 @@
 -- What holds of wrapped control packets whatever the keys: their lengths, and that each has one packet.
-use Rattle.std.proofs.Common.{◌≡◌, ℕ, suc, ◌+◌, List, ◌++◌, length, get_or, take, drop, ap, sym, ◌∙◌, refl}
+use Rattle.std.proofs.Common.{◌≡◌, ℕ, suc, ◌+◌, List, ◌++◌, length, get_or, take, drop, ap, sym, ◌∙◌, refl, arith}
 use Rattle.std.proofs.lemmas.List.{append_assoc, length-append, take_at, drop_at}
 use Rattle.std.proofs.lemmas.Nat.{from_be_bytes-to_be_bytes_4}
 use Rattle.std.specs.Int.{w32, to_be_bytes, from_be_bytes}
@@ -9,13 +9,19 @@ use Rattle.aes_core.specs.CounterMode.{key_stream}
 use Rattle.aes_core.specs.Laws.{length-xor_bytes, xor_bytes_twice}
 use Rattle.hmac_kit.specs.Hmac.{hmac}
 use Rattle.tls_crypt.specs.Wrapped.{Keys, header, tag, cipher_text, datagram, wrapped}
-use Rattle.tls_crypt.specs.Packets.{IsOneToOne}
+use Rattle.tls_crypt.specs.Packets.{IsFramed, IsOneToOne}
 
 -- a header has 17 bytes
 pub length-header : (first : ℕ) (sid : List ℕ) (id time : ℕ) → length sid ≡ 8 → length (header first sid id time) ≡ 17
 unfolding header
 length-header first sid id time size =
     ap suc (length-append (sid ++ to_be_bytes w32 id) (to_be_bytes w32 time) ∙ ap (λ (n : ℕ). n + 4) (length-append sid (to_be_bytes w32 id) ∙ ap (λ (n : ℕ). n + 4) size))
+
+-- and 9 more than its session id, whatever that has
+length-header_of : (first : ℕ) (sid : List ℕ) (id time : ℕ) → length (header first sid id time) ≡ 9 + length sid
+unfolding header
+length-header_of first sid id time =
+    omega (arith, length-append (sid ++ to_be_bytes w32 id) (to_be_bytes w32 time), length-append sid (to_be_bytes w32 id))
 
 -- a tag has 32 bytes
 pub length-tag : (keys : Keys) (front plain : List ℕ) → length (tag keys front plain) ≡ 32
@@ -65,26 +71,38 @@ datagram_plain keys front plain size =
     ∙ ap (cipher_text keys (tag keys front plain)) (datagram_text keys front plain size)
     ∙ cipher_text_twice keys (tag keys front plain) plain
 
+-- a wrapped datagram begins with its header, and has 32 bytes more than the header and the plain text
+pub framed : (keys : Keys) → IsFramed (wrapped keys)
+unfolding datagram
+framed keys first sid id time plain =
+    let front = header first sid id time in
+    let mac = tag keys front plain in
+    let text = cipher_text keys mac plain in
+    let size = length-header_of first sid id time in (
+      ap (take (9 + length sid)) (append_assoc front mac text) ∙ take_at front (mac ++ text) (9 + length sid) size,
+      omega (arith, size, length-tag keys front plain, length-cipher_text keys mac plain, length-append front mac, length-append (front ++ mac) text),
+    )
+
 -- the session id of a header
-header_sid : (first : ℕ) (sid : List ℕ) (id time : ℕ) → length sid ≡ 8 → take 8 (drop 1 (header first sid id time)) ≡ sid
+pub header_sid : (first : ℕ) (sid : List ℕ) (id time : ℕ) → length sid ≡ 8 → take 8 (drop 1 (header first sid id time)) ≡ sid
 unfolding header
 header_sid first sid id time size =
     ap (take 8) (append_assoc sid (to_be_bytes w32 id) (to_be_bytes w32 time)) ∙ take_at sid _ 8 size
 
 -- the packet id
-header_id : (first : ℕ) (sid : List ℕ) (id time : ℕ) → length sid ≡ 8 → take 4 (drop 9 (header first sid id time)) ≡ to_be_bytes w32 id
+pub header_id : (first : ℕ) (sid : List ℕ) (id time : ℕ) → length sid ≡ 8 → take 4 (drop 9 (header first sid id time)) ≡ to_be_bytes w32 id
 unfolding header
 header_id first sid id time size =
     ap (λ (l : List ℕ). take 4 (drop 8 l)) (append_assoc sid (to_be_bytes w32 id) (to_be_bytes w32 time)) ∙ ap (take 4) (drop_at sid (to_be_bytes w32 id ++ to_be_bytes w32 time) 8 size)
 
 -- the time
-header_time : (first : ℕ) (sid : List ℕ) (id time : ℕ) → length sid ≡ 8 → drop 13 (header first sid id time) ≡ to_be_bytes w32 time
+pub header_time : (first : ℕ) (sid : List ℕ) (id time : ℕ) → length sid ≡ 8 → drop 13 (header first sid id time) ≡ to_be_bytes w32 time
 unfolding header
 header_time first sid id time size =
     drop_at (sid ++ to_be_bytes w32 id) (to_be_bytes w32 time) 12 (length-append sid (to_be_bytes w32 id) ∙ ap (λ (n : ℕ). n + 4) size)
 
 -- the first byte
-header_first : (first : ℕ) (sid : List ℕ) (id time : ℕ) → get_or (header first sid id time) 0 0 ≡ first
+pub header_first : (first : ℕ) (sid : List ℕ) (id time : ℕ) → get_or (header first sid id time) 0 0 ≡ first
 unfolding header
 header_first first sid id time = refl
 
