@@ -1,6 +1,6 @@
 use Rattle.std.proofs.Common.{◌≡◌, ℕ, ◌+◌, ◌++◌, List, length}
 use Rattle.route_file.specs.Progress.{outcome_with}
-use Rattle.route_file.proofs.reader.RouteReader.feed.Given as goal
+use Rattle.route_file.proofs.reader.RouteReader.read.Given as goal
 
 abbrev pub invariant-loop-line : goal.invariant-loop-line
 invariant-loop-line l = record {

@@ -6,9 +6,9 @@ use Rattle.std.specs.String.{string_bytes}
 use Rattle.schedule_text.specs.declared.kind.TextKind.{TextKind}
 use Rattle.vpn_base.specs.Lines.{Line}
 use Rattle.route_file.specs.Progress.{outcome_of, outcome_with, Ends}
-use Rattle.route_file.specs.State.{progress_of}
+use Rattle.route_file.specs.internal.State.{progress_of}
 use Rattle.route_file.proofs.Readings.{on_ok, if_refused, finished, last_ok, no_line_left}
-use Rattle.route_file.proofs.reader.RouteReader.finish.Goals as goal
+use Rattle.route_file.proofs.reader.RouteReader.read_last.Goals as goal
 
 pub returns-then-is_empty-clause-ok : goal.returns-then-is_empty-clause-ok
 returns-then-is_empty-clause-ok c =
