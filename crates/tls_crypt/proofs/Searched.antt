@@ -59,8 +59,8 @@ unwraps_found wraps datagram p frame once unwraps =
     let good = (bytes_eq-Decides (wrapped_by wraps (packet_in datagram p.plain)) datagram).1 (ap (wrapped_by wraps) same ∙ sym unwraps.is_wrapped) in
     let only : (other : List ℕ) → passes wraps datagram other ≡ true → other ≡ p.plain =
     λ other right. ap (λ (q : Packet). q.plain)
-        (once (packet_in datagram other) p (record { sid = fits.sid; id = fits.id; time = fits.time }) unwraps.in_range
-        (passed wraps datagram other right ∙ unwraps.is_wrapped)) in
+    (once (packet_in datagram other) p (record { sid = fits.sid; id = fits.id; time = fits.time }) unwraps.in_range
+    (passed wraps datagram other right ∙ unwraps.is_wrapped)) in
     ap (option_map (packet_in datagram))
     (one_found (passes wraps datagram) (length datagram - 49) p.plain (omega (arith, plain_size wraps datagram p frame unwraps)) unwraps.bytes good only)
     ∙ ap (λ (q : Packet). Some q) same

@@ -13,6 +13,6 @@ IsKept datagram result =
     let row = the_row (record { mir = named 0; lft = [] }) in
     follows_so row row datagram.ghost_name none (λ _ _. ⊤)
     (λ last.
-        (last.bytes.ghost_name ≡ datagram.now.bytes.ghost_name)
-        × OnErr result (last.bytes.now ≡ datagram.now.bytes.now)
-        × OnOk result (take 49 last.bytes.now ≡ take 49 datagram.now.bytes.now))
+    (last.bytes.ghost_name ≡ datagram.now.bytes.ghost_name)
+    × OnErr result (last.bytes.now ≡ datagram.now.bytes.now)
+    × OnOk result (take 49 last.bytes.now ≡ take 49 datagram.now.bytes.now))

@@ -6,7 +6,7 @@ use Rattle.std.specs.Int.{w32, to_be_bytes, from_be_bytes}
 use Rattle.sha2.proofs.Facts256.{length-sha256}
 use Rattle.aes_core.specs.Field.{xor_bytes}
 use Rattle.aes_core.specs.CounterMode.{key_stream}
-use Rattle.aes_core.specs.Laws.{length-xor_bytes, xor_bytes_twice}
+use Rattle.aes_core.proofs.Laws.{length-xor_bytes, xor_bytes_twice}
 use Rattle.hmac_kit.specs.Hmac.{hmac}
 use Rattle.tls_crypt.specs.Wrapped.{Keys, header, tag, cipher_text, datagram, wrapped}
 use Rattle.tls_crypt.specs.Packets.{IsFramed, IsOneToOne}

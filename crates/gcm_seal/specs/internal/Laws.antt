@@ -3,7 +3,7 @@
 use Rattle.std.proofs.Common.{◌≡◌, ℕ, List, length, ap, sym, ◌∙◌}
 use Rattle.std.specs.Int.{w128, div_ceil, to_be_bytes}
 use Rattle.aes_core.specs.Field.{xor_bytes}
-use Rattle.aes_core.specs.Laws.{length-xor_bytes, xor_bytes_twice}
+use Rattle.aes_core.proofs.Laws.{length-xor_bytes, xor_bytes_twice}
 use Rattle.gcm_seal.specs.Gcm.{cipher_text, counter_ciphers, gcm, gctr, hash_of, inc32, pre_counter_block, tag_of}
 use Rattle.gcm_seal.specs.Sealed.{Sealed}
 

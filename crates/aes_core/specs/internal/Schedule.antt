@@ -1,7 +1,7 @@
 -- What an `AesKey` keeps: the words of the key schedule, and how many rounds there are.
 use Rattle.std.specs.Prelude.{◌≡◌, ℕ, ◌+◌, ◌-◌, ◌*◌, ◌%◌, ◌≤◌, List, map, take, flat_map}
 use Rattle.aes_core.specs.KeyExpansion.{key_expansion, round_count}
-use Rattle.aes_core.specs.Words.{word_bytes}
+use Rattle.aes_core.specs.internal.Words.{word_bytes}
 use Rattle.aes_core.specs.declared.AesKey.TheInside.{Inside}
 
 -- the first words of a key schedule, as many as a key of so many rounds has, as bytes

@@ -2,10 +2,10 @@
 use Rattle.std.specs.Prelude.{◌≡◌, ℕ, List, [], ◌∷◌, ◌++◌, bit_xor, slice_index, take}
 use Rattle.std.specs.Int.{byte_at, to_be_bytes, w128}
 use Rattle.aes_core.specs.Cipher.{add_round_key, round}
-use Rattle.aes_core.specs.Columns.{mixed_part}
+use Rattle.aes_core.specs.internal.Columns.{mixed_part}
 use Rattle.aes_core.specs.Field.{xor_bytes}
 use Rattle.aes_core.specs.SBox.{sbox}
-use Rattle.aes_core.specs.Words.{four_words, word_bytes}
+use Rattle.aes_core.specs.internal.Words.{four_words, word_bytes}
 use Rattle.aes_core.specs.declared.shared.SharedRounds.{SharedRounds}
 
 -- the state after the first two rounds, under the round keys that begin at words 0, 4 and 8
