@@ -4,7 +4,7 @@ use Rattle.std.specs.Prelude.{Option, Some, None, nat_lt, cond}
 use Rattle.vpn_base.specs.declared.address.Ip4.{Ip4}
 use Rattle.vpn_base.specs.Network.{contains}
 use Rattle.route_table.specs.Owner.{Row, better, best_row}
-use Rattle.route_table.specs.Walk.{longer, best_after}
+use Rattle.route_table.specs.internal.Walk.{longer, best_after}
 
 -- nothing is best so far
 after_none : (x r : Row) (in_x : Bool) → cond (in_x && nat_lt r.0.len x.0.len) (Some x) (Some r) ≡ longer (cond in_x (Some x) None) r

@@ -1,14 +1,14 @@
 use Rattle.std.proofs.Common.{◌≡◌, ◌+◌, ◌++◌, ◌∷◌, [], ◌∙◌, true, false, take, arith, refl, sym}
 use Rattle.std.proofs.lemmas.List.{take_more}
 use Rattle.vpn_base.specs.Network.{contains}
-use Rattle.route_table.specs.Walk.{best_after}
-use Rattle.route_table.proofs.Rows.{best_row-push}
-use Rattle.route_table.proofs.RouteTable.owner.Goals as goal
-use Rattle.route_table.proofs.RouteTable.owner.Goals.{then-contains, else-contains}
+use Rattle.route_table.specs.internal.Walk.{best_after}
+use Rattle.route_table.proofs.BestRow.{best_row-push}
+use Rattle.route_table.proofs.rows.owner_among.Goals as goal
+use Rattle.route_table.proofs.rows.owner_among.Goals.{then-contains, else-contains}
 
 pub loop-row-preserved : goal.loop-row-preserved
 loop-row-preserved g c =
-    let rows = c.deref-row-items.result.now in
+    let rows = c.args.rows.now in
     let i = c.loop-row.row-index in
     let row = c.row-item.result in
     let more : take (i + 1) rows ≡ take i rows ++ row ∷ [] = grind (arith, take_more rows i row c.loop-row-test.true, c.row-item.is) in
