@@ -4,7 +4,7 @@ use Rattle.vpn_base.specs.declared.address.Ip4.{Ip4}
 use Rattle.vpn_base.specs.declared.names.Cid.{Cid}
 use Rattle.vpn_base.specs.Network.{Network}
 use Rattle.ip_packets.specs.Inner.{is_ip, source, destination}
-use Rattle.route_table.specs.Owner.{Row, owner}
+use Rattle.route_table.specs.Owner.{Row, owner, is_owned_by}
 use Rattle.inner_verdict.specs.declared.Verdict.{Verdict}
 use Rattle.inner_verdict.specs.declared.Verdict.TheVariants.{NotIp, TooLong, Multicast, BadSource, ToClient, ToDevice, NoRoute}
 
@@ -20,11 +20,6 @@ is_broadcast (Some subnet) a = a.0 == subnet.net.0 + 2 ^ (32 - subnet.len) - 1
 -- an address of many: 224.0.0.0/4, 255.255.255.255, or the subnet's broadcast
 abbrev pub is_group : Option Network → Ip4 → Bool
 is_group subnet a = (a.0 / 2 ^ 28 == 14) || (a.0 == 2 ^ 32 - 1) || is_broadcast subnet a
-
--- whether this owner was found and is that client
-abbrev pub is_owned_by : Cid → Option Cid → Bool
-is_owned_by sender None = false
-is_owned_by sender (Some found) = found.0 == sender.0
 
 -- by the owner of the destination: a client's packet reaches another client only where clients may reach each other
 abbrev pub routed : Bool → Option Cid → Option Cid → Verdict

@@ -49,7 +49,7 @@ fn owner_of<L: Ledger>(blank: Blank, table: &RouteTable, a: Ip4) -> Option<Cid>
     requires name { blank.name ≡ L.name }
     requires parts { blank.parts ≡ L.parts }
     requires some { 0 < L.parts }
-    ensures { result ≡ owner table.now a }
+    ensures { result ≡ owner table.now.rows a }
 {
     let mut steps = Steps::<L>::from_blank(blank);
     table.owner(a, &mut steps)
@@ -66,7 +66,7 @@ fn verdict_of<L: Ledger>(
     requires name { blank.name ≡ L.name }
     requires parts { blank.parts ≡ L.parts }
     requires some { 0 < L.parts }
-    ensures { result ≡ verdict table.now subnet between sender packet.now }
+    ensures { result ≡ verdict table.now.rows subnet between sender packet.now }
 {
     let mut steps = Steps::<L>::from_blank(blank);
     verdict_on(table, subnet, between, sender, packet, &mut steps)
@@ -98,7 +98,7 @@ impl State {
 
     /// Nothing yet.
     pub(crate) fn new(alloc: Global) -> State
-        ensures table { result.table ≡ [] }
+        ensures table { result.table.rows ≡ [] }
         ensures subnet { result.subnet ≡ None }
         ensures between { result.between ≡ false }
         ensures keys { result.keys.items ≡ [] }
@@ -124,7 +124,7 @@ impl State {
     // Where a packet goes that comes from this client, or from the device.
     fn print_verdict_on(&mut self, sender: Option<Cid>, packet: &[u8]) -> Result<(), NoMemory>
         ensures printed { OnOk result (string_bytes self.new.text ≡ string_bytes self.old.text
-            ++ (verdict_text (verdict self.old.table self.old.subnet self.old.between sender packet.now) ++ 10 ∷ [])) }
+            ++ (verdict_text (verdict self.old.table.rows self.old.subnet self.old.between sender packet.now) ++ 10 ∷ [])) }
         ensures table { (progress_of self.new []).table ≡ (progress_of self.old []).table }
         ensures count { self.new.count ≡ self.old.count }
         ensures bytes { self.new.bytes ≡ self.old.bytes }

@@ -1,2 +1,3 @@
 pub mod Owner
-pub mod Walk
+pub mod Learned
+pub mod internal

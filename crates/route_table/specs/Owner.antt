@@ -1,5 +1,5 @@
 -- Who owns an address, by one walk over the rows in the order in which they were added.
-use Rattle.std.specs.Prelude.{◌==◌, ◌&&◌, nat_lt, not, List, [], ◌∷◌, filter, Option, Some, None, option_map, if◌then◌else◌}
+use Rattle.std.specs.Prelude.{◌==◌, ◌&&◌, nat_lt, not, Bool, false, List, [], ◌∷◌, filter, Option, Some, None, option_map, if◌then◌else◌}
 use Rattle.vpn_base.specs.declared.address.Ip4.{Ip4}
 use Rattle.vpn_base.specs.declared.names.Cid.{Cid}
 use Rattle.vpn_base.specs.Network.{Network, contains}
@@ -21,6 +21,11 @@ best_row (row ∷ rows) a = better a row (best_row rows a)
 -- its client
 unfoldable pub owner : List Row → Ip4 → Option Cid
 owner rows a = option_map (λ row. row.1) (best_row rows a)
+
+-- whether an owner was found and is this client
+abbrev pub is_owned_by : Cid → Option Cid → Bool
+is_owned_by cid None = false
+is_owned_by cid (Some found) = found.0 == cid.0
 
 -- the rows of all other clients, in their order
 abbrev pub without : List Row → Cid → List Row

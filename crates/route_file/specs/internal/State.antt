@@ -10,7 +10,7 @@ use Rattle.route_file.specs.declared.state.State.{State}
 abbrev pub progress_of : State → List ℕ → Progress
 progress_of s kept = record {
   printed = string_bytes s.text;
-  table = record { rows = s.table; subnet = s.subnet; between = s.between; keys = s.keys.items };
+  table = record { rows = s.table.rows; subnet = s.subnet; between = s.between; keys = s.keys.items };
   count = s.count;
   bytes = s.bytes;
   kept = kept;
