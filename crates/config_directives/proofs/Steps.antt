@@ -13,7 +13,8 @@ use Rattle.config_directives.specs.declared.item.Item.{Item}
 use Rattle.config_directives.specs.declared.item.Directive.{Directive}
 use Rattle.config_directives.specs.Items.{name_of}
 use Rattle.config_directives.specs.Entries.{FileLine, Faulty, block_behind, entries, line_behind, line_entries, line_with, inside_entries, inside_kind, is_over, item_on, outside_entries}
-use Rattle.config_directives.specs.Judging.{Adds, Stops, judged, kind_of, unless_wrong}
+use Rattle.config_directives.specs.Judging.{judged, kind_of, unless_wrong}
+use Rattle.config_directives.specs.internal.Steps.{Adds, Stops}
 
 -- a fault of a line
 pub stops_here : (before : List Directive) (fault : ConfigFault) → Stops before (Faulty fault ∷ []) fault

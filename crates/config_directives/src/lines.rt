@@ -6,7 +6,8 @@ ghost use Rattle.vpn_base.specs.Answers.{IfWhy};
 ghost use Rattle.vpn_base.specs.Lines.{Line, lines_of};
 ghost use Rattle.config_directives.specs.Blocks.{block_end};
 ghost use Rattle.config_directives.specs.Entries.{begun_by, block_behind, block_name, entries, has_control, inside_kind, is_over, item_on, line_entries, line_with, until_end};
-ghost use Rattle.config_directives.specs.Judging.{Adds, Stops, judged};
+ghost use Rattle.config_directives.specs.Judging.{judged};
+ghost use Rattle.config_directives.specs.internal.Steps.{Adds, Stops};
 
 use crate::item::{Directive, Item};
 use crate::judging::kind_of;
@@ -21,7 +22,7 @@ const LONGEST_FILE: usize = 65_536;
 const LONGEST_LINE: usize = 1_024;
 
 /// The directives of a file, in their order.
-#[derive(Debug, Drop)]
+#[derive(Drop)]
 pub struct FileDirectives {
     /// The directives.
     pub directives: Vec<Directive>,

@@ -18,7 +18,8 @@ use Rattle.config_directives.specs.Names.{is_refused}
 use Rattle.config_directives.specs.Entries.{Entry, begun_by, block_begun, block_behind, entries, has_control, inside_entries, inside_kind, is_over, item_begun, line_behind, outside_entries, until_end, words_on}
 use Rattle.config_directives.specs.Judging.{is_known, is_open, is_repeated, is_taken, judged, kind_of, unless_wrong}
 use Rattle.ovpn_config.specs.Canonical.{lines_with}
-use Rattle.ovpn_config.proofs.CleanText.{Laws, both_true, clean-any, is_clean}
+use Rattle.ovpn_config.specs.internal.Laws.{Laws}
+use Rattle.ovpn_config.proofs.CleanText.{both_true, clean-any, is_clean}
 use Rattle.ovpn_config.proofs.RoundItems.{CanRead, ended-behind, may_stand}
 
 pub record IsSound (item : Item) : Type 0 where

@@ -1,7 +1,7 @@
 use Rattle.std.proofs.Common.{sym, subst}
 use Rattle.vpn_text.specs.declared.config.ConfigFault.{ConfigFault}
 use Rattle.config_directives.specs.Entries.{line_entries, line_with}
-use Rattle.config_directives.specs.Judging.{Stops}
+use Rattle.config_directives.specs.internal.Steps.{Stops}
 use Rattle.config_directives.proofs.Steps.{stops_within}
 use Rattle.config_directives.proofs.lines.Reader.take_inside.Goals as goal
 
