@@ -30,6 +30,9 @@ fn words_of_lines(rt: HostRuntime) {
 
 #[test]
 fn lines_of_files(rt: HostRuntime) {
+    assert!(rt; !is_long(b"dev tun"));
+    assert!(rt; is_over(65_537));
+    assert!(rt; is_control(0x7F));
     match read_config_line(rt.alloc(), 7, b"dev tun", false) {
         Ok(words) => assert_eq!(rt; words.count(), 2),
         Err(_) => panic!(rt; "words"),
