@@ -1,3 +1,3 @@
 pub mod Options
 pub mod Parts
-pub mod Writing
+pub mod internal

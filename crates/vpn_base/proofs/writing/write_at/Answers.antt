@@ -1,6 +1,6 @@
 use Rattle.std.proofs.Common.{List, ℕ, ◌+◌, ◌++◌, length, take, ap, ◌∙◌, arith}
 use Rattle.std.proofs.lemmas.Slice.{take-put_mid, drop-put_mid}
-use Rattle.vpn_base.proofs.writing.put.Goals as goal
+use Rattle.vpn_base.proofs.writing.write_at.Goals as goal
 
 pub returns-clause-written : goal.returns-clause-written
 returns-clause-written c =
