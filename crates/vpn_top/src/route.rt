@@ -2,8 +2,8 @@
 
 ghost use Rattle.std.specs.Prelude.{◌≡◌, ◌+◌, ◌<◌, ◌≤◌, ◌^◌, ℕ, List, [], Option, length};
 ghost use Rattle.vpn_base.specs.Files.{Holding};
-ghost use Rattle.vpn_top.specs.Going.{Going, IsEnd, IsNext, Settled};
-ghost use Rattle.vpn_top.specs.Ends.{Ended, Turned, Went, fault_of};
+ghost use Rattle.vpn_top.specs.internal.Going.{Going, IsEnd, IsNext, Settled};
+ghost use Rattle.vpn_top.specs.internal.Ends.{Ended, Turned, Went, fault_of};
 
 use crate::refusal::Refusal;
 use crate::writing::write_all;

@@ -1,7 +1,7 @@
 use Rattle.std.proofs.Common.{subst}
 use Rattle.vpn_base.specs.Files.{Holding}
-use Rattle.vpn_top.specs.Ends.{Ended}
-use Rattle.vpn_top.specs.Going.{Going}
+use Rattle.vpn_top.specs.internal.Ends.{Ended}
+use Rattle.vpn_top.specs.internal.Going.{Going}
 use Rattle.vpn_top.proofs.Counting.{ended_since}
 use Rattle.vpn_top.proofs.route.route_pieces.Goals as goal
 

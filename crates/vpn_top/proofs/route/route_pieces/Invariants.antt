@@ -1,5 +1,5 @@
 use Rattle.std.proofs.Common.{◌≡◌, ℕ, ◌+◌, ◌-◌, ◌≤◌, ◌^◌, List, length}
-use Rattle.vpn_top.specs.Going.{Going}
+use Rattle.vpn_top.specs.internal.Going.{Going}
 use Rattle.vpn_top.proofs.route.route_pieces.Given as goal
 
 abbrev pub invariant-loop-next : goal.invariant-loop-next

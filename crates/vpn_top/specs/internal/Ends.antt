@@ -7,7 +7,7 @@ use Rattle.vpn_top.specs.declared.refusal.Refusal.TheVariants as refusals
 use Rattle.vpn_top.specs.declared.route.Turn.{Turn}
 use Rattle.vpn_top.specs.declared.route.Turn.TheVariants.{More, End}
 use Rattle.vpn_top.specs.Written.{Printed, PrintedPart}
-use Rattle.vpn_top.specs.Going.{Going}
+use Rattle.vpn_top.specs.internal.Going.{Going}
 use Rattle.schedule_text.specs.declared.kind.TextKind.{TextKind}
 use Rattle.route_file.specs.declared.state.RouteFault.{RouteFault}
 use Rattle.route_file.specs.Progress.{Progress}
