@@ -210,7 +210,8 @@ fn append_staged(staged: &mut Vec<Staged>, datagram: Staged)
 }
 
 impl Outbox {
-    /// An empty outbox, with room for 4 effects and 4,096 bytes.
+    /// An empty outbox, with room for 4 effects and 4,096 bytes. One that is made or cleared has that room;
+    /// one that was emptied by [`Outbox::cut`] need not have it.
     pub fn make(alloc: Global) -> Result<Outbox, NoMemory>
         ensures empty { IfOk result (λ o. Holds o [] []) }
         ensures spare { IfOk result (λ o. (4 ≤ o.spare_effects) × (4096 ≤ o.spare_bytes)) }
@@ -234,10 +235,12 @@ impl Outbox {
         self.bytes.clear();
     }
 
-    /// Makes room for at least so many more effects or staged datagrams, and for so many more bytes.
+    /// Makes room for at least so many more effects or staged datagrams, and for so many more bytes. It takes
+    /// no memory where that room is there.
     pub fn reserve(&mut self, effects: usize, bytes: usize) -> Result<(), NoMemory>
         ensures same { Holds self.new self.old.effects self.old.staged }
         ensures ok { OnOk result ((effects ≤ self.new.spare_effects) × (bytes ≤ self.new.spare_bytes)) }
+        ensures fits { effects ≤ self.old.spare_effects → bytes ≤ self.old.spare_bytes → IsOk result }
         ensures grows { (self.old.spare_effects ≤ self.new.spare_effects) × (self.old.spare_bytes ≤ self.new.spare_bytes) }
     {
         make_room(&mut self.effects, &mut self.staged, effects)?;
@@ -305,7 +308,8 @@ impl Outbox {
         self.staged.len()
     }
 
-    /// Keeps the first so many effects and the first so many staged datagrams.
+    /// Keeps the first so many effects and the first so many staged datagrams. The bytes of what is cut off
+    /// keep their room until the outbox is cleared.
     #[tactic(auto, using(crate::proofs::Parts::take_map, crate::proofs::Parts::all_take, crate::proofs::Parts::own_take, crate::proofs::Parts::own_staged_take))]
     pub fn cut(&mut self, effects: usize, staged: usize)
         requires effects { effects ≤ length self.old.effects }
