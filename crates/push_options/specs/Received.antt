@@ -52,14 +52,14 @@ name_of word =
 abbrev pub number_in : ℕ → List (List ℕ) → Option ℕ
 number_in most words = option_and_then (number_of most) (one_of words)
 
--- an address and the length of a mask
-abbrev pub address_from : Option Ip4 → Option ℕ → Option Meaning
-address_from (Some a) (Some len) = Some (options.Address a len)
-address_from _ _ = None
+-- two values, if both are there
+abbrev pub both : {A B : Type 0} → Option A → Option B → Option (A × B)
+both (Some a) (Some b) = Some (a, b)
+both _ _ = None
 
--- IP MASK
-abbrev pub address_in : List (List ℕ) → Option Meaning
-address_in (ip ∷ mask ∷ []) = address_from (ip4_of ip) (mask_of mask)
+-- IP MASK: an address and the length of its mask
+abbrev pub address_in : List (List ℕ) → Option (Ip4 × ℕ)
+address_in (ip ∷ mask ∷ []) = both (ip4_of ip) (mask_of mask)
 address_in _ = None
 
 -- whether these are the same cipher
@@ -75,22 +75,21 @@ is_own (Choose first second) cipher = is_same first cipher || option_map_or (λ 
 is_own (Fixed only) cipher = is_same only cipher
 
 -- a cipher of the client's own
-abbrev pub cipher_from : Policy → Option Cipher → Option Meaning
-cipher_from ours None = None
-cipher_from ours (Some cipher) = if is_own ours cipher then Some (options.Cipher cipher) else None
+abbrev pub if_own : Policy → Option Cipher → Option Cipher
+if_own ours None = None
+if_own ours (Some cipher) = if is_own ours cipher then Some cipher else None
 
 -- NAME
-abbrev pub cipher_in : Policy → List (List ℕ) → Option Meaning
-cipher_in ours words = cipher_from ours (option_and_then cipher_named (one_of words))
+abbrev pub cipher_in : Policy → List (List ℕ) → Option Cipher
+cipher_in ours words = if_own ours (option_and_then cipher_named (one_of words))
 
 -- `subnet`
-abbrev pub topology_in : List (List ℕ) → Option Meaning
-topology_in (word ∷ []) = if bytes_eq word (codes "subnet") then Some options.Nothing else None
-topology_in _ = None
+abbrev pub is_subnet : List (List ℕ) → Bool
+is_subnet words = option_map_or (λ word. bytes_eq word (codes "subnet")) (one_of words) false
 
 -- IP
-abbrev pub gateway_in : List (List ℕ) → Option Meaning
-gateway_in words = option_map (λ a. options.Gateway a) (option_and_then ip4_of (one_of words))
+abbrev pub gateway_in : List (List ℕ) → Option Ip4
+gateway_in words = option_and_then ip4_of (one_of words)
 
 -- the mask of one address
 unfoldable pub host_mask : List ℕ
@@ -111,11 +110,11 @@ mark_in _ = None
 
 -- what an option of this name says with these arguments; None where it is refused
 abbrev pub received_as : Policy → Name → List (List ℕ) → Option Meaning
-received_as ours names.Address words = address_in words
+received_as ours names.Address words = option_map (λ (t : Ip4 × ℕ). options.Address t.0 t.1) (address_in words)
 received_as ours names.Peer words = option_map (λ n. options.Peer n) (number_in 0xFFFFFE words)
-received_as ours names.Cipher words = cipher_in ours words
-received_as ours names.Topology words = topology_in words
-received_as ours names.Gateway words = gateway_in words
+received_as ours names.Cipher words = option_map (λ cipher. options.Cipher cipher) (cipher_in ours words)
+received_as ours names.Topology words = if is_subnet words then Some options.Nothing else None
+received_as ours names.Gateway words = option_map (λ a. options.Gateway a) (gateway_in words)
 received_as ours names.Route words = option_map (λ n. options.Route n) (route_in words)
 received_as ours names.Ping words = option_map (λ n. options.Ping n) (number_in 0xFFFFFFFF words)
 received_as ours names.PingRestart words = option_map (λ n. options.PingRestart n) (number_in 0xFFFFFFFF words)

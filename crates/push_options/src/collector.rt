@@ -1,10 +1,11 @@
 //! The parts of a push reply, taken one after another until they are whole.
 
-ghost use Rattle.std.specs.Prelude.{◌≡◌, ℕ, ◌==◌, true, false, List, Some, None, Ok, Err, IfOk, IfErr, OnOk, unwrap_or};
+ghost use Rattle.std.specs.Prelude.{◌≡◌, ℕ, ◌≤◌, ◌==◌, true, false, List, Some, None, Ok, Err, IfOk, IfErr, IfSome, OnOk, unwrap_or};
 ghost use Rattle.std.specs.List.{list_all, slice_split};
 ghost use Rattle.vpn_base.specs.declared.names.Policy.{Policy};
 ghost use Rattle.vpn_base.specs.Answers.{Answers, IfWhy};
 ghost use Rattle.push_options.specs.Received.{received};
+ghost use Rattle.push_options.specs.internal.Masked.{IsMasked};
 ghost use Rattle.push_options.specs.Collecting.{collected, first_of, is_plain, mark_of, nothing, pushed_by};
 ghost use Rattle.push_options.specs.Parts.{reply_parts};
 
@@ -57,11 +58,15 @@ pub struct Collector {
 }
 
 impl Model for Collector {
+    ghost use Rattle.std.specs.Prelude.{◌≤◌};
+    ghost use Rattle.std.specs.Option.{ForSome};
     ghost use Rattle.push_options.specs.Collecting.{Collected};
 
     ghost Value = { Collected };
 
     ghost view = { λ c. record { address = c.address; gateway = c.gateway; routes = c.routes; ping = c.ping; ping_restart = c.ping_restart; peer = c.peer; cipher = c.cipher; rest = c.rest } };
+
+    ghost invariant = { λ c. ForSome c.address (λ t. t.1 ≤ 32) };
 }
 
 fn fault(alloc: Global, option: &[u8]) -> Or<PushFault>
@@ -85,6 +90,7 @@ fn first_of(words: &[Text]) -> &[u8]
 // What an option of these words says, or its fault.
 fn known(alloc: Global, ours: Policy, words: &[Text]) -> Result<Meaning, Or<PushFault>>
     ensures ok { IfOk result (λ meaning. received ours words.now ≡ Some meaning) }
+    ensures masked { IfOk result IsMasked }
     ensures err { IfErr result (λ e. (received ours words.now ≡ None) × IfWhy e (λ why. why ≡ record { option = first_of words.now })) }
 {
     match received(ours, words) {
@@ -140,6 +146,7 @@ impl Collector {
 
     // Takes what one more option says.
     fn take(&mut self, alloc: Global, option: &[u8], meaning: Meaning) -> Result<(), NoMemory>
+        requires { IsMasked meaning }
         ensures { OnOk result (self.new ≡ with_meaning self.old option.now meaning) }
     {
         match meaning {
@@ -214,7 +221,8 @@ impl Collector {
 
     // What the whole reply pushes.
     fn finish(self, alloc: Global) -> Result<Pushed, Or<PushFault>>
-        ensures { Answers result (pushed self) }
+        ensures answer { Answers result (pushed self) }
+        ensures mask { IfOk result (λ p. p.len ≤ 32) }
     {
         let Collector {
             address,
@@ -265,6 +273,7 @@ impl Collector {
         ours: &Policy,
     ) -> Result<Option<Pushed>, Or<PushFault>>
         ensures answer { Answers result (answer ours.now self.old part.now) }
+        ensures mask { IfOk result (λ answer. IfSome answer (λ p. p.len ≤ 32)) }
         ensures ok { OnOk result (self.new ≡ kept ours.now self.old part.now) }
         ensures err { IfErr result (λ e. IsLeft e self.old self.new) }
     {

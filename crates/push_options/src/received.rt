@@ -1,7 +1,8 @@
 //! The options of a push reply, as a client reads them.
 
 ghost use Rattle.std.specs.Prelude.{◌≡◌, ◌≤◌, [], ◌++◌, IfOk, IfSome, OnOk};
-ghost use Rattle.push_options.specs.Received.{address_in, cipher_from, cipher_in, gateway_in, if_any, is_own, is_same, mark_in, name_of, number_in, received, received_as, route_in, topology_in, words_in};
+ghost use Rattle.push_options.specs.Received.{address_in, cipher_in, gateway_in, if_any, if_own, is_own, is_same, is_subnet, mark_in, name_of, number_in, received, received_as, route_in, words_in};
+ghost use Rattle.push_options.specs.internal.Masked.{IsMasked};
 
 use std::alloc::Global;
 use std::mem;
@@ -101,12 +102,13 @@ fn number_in(words: &[Text], most: u32) -> Option<u32>
     }
 }
 
-fn address_in(words: &[Text]) -> Option<Meaning>
-    ensures { result ≡ address_in words.now }
+fn address_in(words: &[Text]) -> Option<(Ip4, u8)>
+    ensures same { result ≡ address_in words.now }
+    ensures within { IfSome result (λ t. t.1 ≤ 32) }
 {
     match words {
         [ip, mask] => match (read_ip4(ip.as_slice()), read_mask(mask.as_slice())) {
-            (Some(a), Some(len)) => Some(Meaning::Address(a, len)),
+            (Some(a), Some(len)) => Some((a, len)),
             _ => None,
         },
         _ => None,
@@ -140,14 +142,14 @@ fn is_own(ours: Policy, cipher: Cipher) -> bool
     }
 }
 
-fn cipher_from(ours: Policy, cipher: Option<Cipher>) -> Option<Meaning>
-    ensures { result ≡ cipher_from ours cipher }
+fn if_own(ours: Policy, cipher: Option<Cipher>) -> Option<Cipher>
+    ensures { result ≡ if_own ours cipher }
 {
     match cipher {
         None => None,
         Some(cipher) => {
             if is_own(ours, cipher) {
-                Some(Meaning::Cipher(cipher))
+                Some(cipher)
             } else {
                 None
             }
@@ -155,38 +157,29 @@ fn cipher_from(ours: Policy, cipher: Option<Cipher>) -> Option<Meaning>
     }
 }
 
-fn cipher_in(ours: Policy, words: &[Text]) -> Option<Meaning>
+fn cipher_in(ours: Policy, words: &[Text]) -> Option<Cipher>
     ensures { result ≡ cipher_in ours words.now }
 {
     match words {
-        [word] => cipher_from(ours, read_cipher(word.as_slice())),
+        [word] => if_own(ours, read_cipher(word.as_slice())),
         _ => None,
     }
 }
 
-fn topology_in(words: &[Text]) -> Option<Meaning>
-    ensures { result ≡ topology_in words.now }
+fn is_subnet(words: &[Text]) -> bool
+    ensures { result ≡ is_subnet words.now }
 {
     match words {
-        [word] => {
-            if word.as_slice() == b"subnet".as_slice() {
-                Some(Meaning::Nothing)
-            } else {
-                None
-            }
-        }
-        _ => None,
+        [word] => word.as_slice() == b"subnet".as_slice(),
+        _ => false,
     }
 }
 
-fn gateway_in(words: &[Text]) -> Option<Meaning>
+fn gateway_in(words: &[Text]) -> Option<Ip4>
     ensures { result ≡ gateway_in words.now }
 {
     match words {
-        [word] => match read_ip4(word.as_slice()) {
-            None => None,
-            Some(a) => Some(Meaning::Gateway(a)),
-        },
+        [word] => read_ip4(word.as_slice()),
         _ => None,
     }
 }
@@ -222,14 +215,24 @@ fn mark_in(words: &[Text]) -> Option<bool>
 }
 
 fn received_as(ours: Policy, name: Name, words: &[Text]) -> Option<Meaning>
-    ensures { result ≡ received_as ours name words.now }
+    ensures same { result ≡ received_as ours name words.now }
+    ensures masked { IfSome result IsMasked }
 {
     match name {
-        Name::Address => address_in(words),
+        Name::Address => {
+            let (a, len) = address_in(words)?;
+            Some(Meaning::Address(a, len))
+        }
         Name::Peer => Some(Meaning::Peer(number_in(words, 0xFF_FFFE)?)),
-        Name::Cipher => cipher_in(ours, words),
-        Name::Topology => topology_in(words),
-        Name::Gateway => gateway_in(words),
+        Name::Cipher => Some(Meaning::Cipher(cipher_in(ours, words)?)),
+        Name::Topology => {
+            if is_subnet(words) {
+                Some(Meaning::Nothing)
+            } else {
+                None
+            }
+        }
+        Name::Gateway => Some(Meaning::Gateway(gateway_in(words)?)),
         Name::Route => Some(Meaning::Route(route_in(words)?)),
         Name::Ping => Some(Meaning::Ping(number_in(words, u32::MAX)?)),
         Name::PingRestart => Some(Meaning::PingRestart(number_in(words, u32::MAX)?)),
@@ -241,7 +244,8 @@ fn received_as(ours: Policy, name: Name, words: &[Text]) -> Option<Meaning>
 
 // What an option of these words says; None where it is refused.
 pub(crate) fn received(ours: Policy, words: &[Text]) -> Option<Meaning>
-    ensures { result ≡ received ours words.now }
+    ensures same { result ≡ received ours words.now }
+    ensures masked { IfSome result IsMasked }
 {
     match words {
         [] => Some(Meaning::Unread),
