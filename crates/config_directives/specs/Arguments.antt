@@ -11,6 +11,7 @@ use Rattle.vpn_base.specs.Address.{ip4_of}
 use Rattle.vpn_base.specs.Network.{Network}
 use Rattle.vpn_base.specs.Number.{number_of}
 use Rattle.vpn_base.specs.WordCount.{one_of, two_of, three_of}
+use Rattle.vpn_text.specs.CipherWord.{cipher_named}
 use Rattle.vpn_text.specs.Mask.{masked_network}
 use Rattle.vpn_text.specs.Quoted.{may_be_pushed}
 use Rattle.config_directives.specs.declared.numbers.NumberDirective.{NumberDirective}
@@ -109,26 +110,19 @@ route_of None None = None
 abbrev pub route_network : List (List ℕ) → Option Network
 route_network arguments = route_of (one_of arguments) (two_of arguments)
 
--- `data-ciphers LIST`: of the names between colons these two count, all others are passed over
-abbrev pub cipher_named : List ℕ → Option Cipher
-cipher_named name =
-    if bytes_eq name (codes "AES-256-GCM") then Some Aes256Gcm
-    else if bytes_eq name (codes "AES-128-GCM") then Some Aes128Gcm
-    else None
-
--- whether the second is the other one
+-- whether the second cipher is the other one
 abbrev pub is_other : Cipher → Cipher → Bool
 is_other Aes128Gcm Aes128Gcm = false
 is_other Aes128Gcm Aes256Gcm = true
 is_other Aes256Gcm Aes128Gcm = true
 is_other Aes256Gcm Aes256Gcm = false
 
--- each counts once, at its first place, and at least one has to
+-- each cipher counts once, at its first place, and there has to be one
 abbrev pub policy_of : List Cipher → Option Policy
 policy_of [] = None
 policy_of (first ∷ more) = Some (Choose first (find (is_other first) more))
 
--- the ciphers of a list of names between colons
+-- `data-ciphers LIST`: the ciphers among the names between colons; all other names are passed over
 abbrev pub ciphers_in : List ℕ → List Cipher
 ciphers_in names = filter_map cipher_named (slice_split (λ byte. byte == 58) names)
 

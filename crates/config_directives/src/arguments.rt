@@ -4,14 +4,14 @@ ghost use Rattle.std.specs.Prelude.{◌≡◌, ◌≤◌, List, IfSome};
 ghost use Rattle.std.specs.Option.{option_copied};
 ghost use Rattle.std.specs.List.{cons_option};
 ghost use Rattle.config_directives.specs.Items.{arguments_of};
-ghost use Rattle.config_directives.specs.Arguments.{cipher_named, cipher_policy, ciphers_in, default_window, device_name, is_console, is_other, is_place, is_subnet, is_udp, is_word, keepalive_times, local_address, number_in, one_number, policy_of, port_of, push_text, remote_at, remote_end, replay_window, route_network, server_network, width_of};
+ghost use Rattle.config_directives.specs.Arguments.{cipher_policy, ciphers_in, default_window, device_name, is_console, is_other, is_place, is_subnet, is_udp, is_word, keepalive_times, local_address, number_in, one_number, policy_of, port_of, push_text, remote_at, remote_end, replay_window, route_network, server_network, width_of};
 ghost use Rattle.config_directives.specs.internal.Ciphers.{with_more};
 ghost use Rattle.vpn_base.specs.declared.names.Cipher.{Cipher};
 
 use crate::item::Item;
 use crate::numbers::NumberDirective;
 use vpn_base::{Cipher, Ip4, Policy, Prefix, read_ip4, read_number, split_once};
-use vpn_text::{is_push_text, read_network};
+use vpn_text::{is_push_text, read_cipher, read_network};
 
 // Whether exactly this word stands behind the name.
 fn is_word(item: &Item, word: &[u8]) -> bool
@@ -169,18 +169,6 @@ pub fn route_network(item: &Item) -> Option<Prefix>
     }
 }
 
-fn cipher_named(name: &[u8]) -> Option<Cipher>
-    ensures { result ≡ cipher_named name.now }
-{
-    if name == b"AES-256-GCM".as_slice() {
-        Some(Cipher::Aes256Gcm)
-    } else if name == b"AES-128-GCM".as_slice() {
-        Some(Cipher::Aes128Gcm)
-    } else {
-        None
-    }
-}
-
 fn is_other(one: Cipher, two: Cipher) -> bool
     ensures { result ≡ is_other one two }
 {
@@ -237,10 +225,10 @@ fn policy_of(names: &[u8]) -> Option<Policy>
     let mut policy = None;
     let mut rest = names;
     while let Some((name, after)) = split_once(rest, b':') {
-        policy = add_cipher(policy, cipher_named(name));
+        policy = add_cipher(policy, read_cipher(name));
         rest = after;
     }
-    add_cipher(policy, cipher_named(rest))
+    add_cipher(policy, read_cipher(rest))
 }
 
 /// `data-ciphers LIST`: of the names between colons `AES-256-GCM` and `AES-128-GCM` count, once

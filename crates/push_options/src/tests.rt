@@ -1,7 +1,7 @@
 use super::*;
 use std::alloc::Global;
 use std::test::Fail;
-use vpn_base::{Cipher, Ip4, NoMemory, Text, TextList};
+use vpn_base::{Cipher, Ip4, NoMemory, Or, Policy, Text, TextList};
 
 fn list_of(alloc: Global, texts: &[&[u8]]) -> Result<TextList, NoMemory> {
     let mut list = TextList::new(alloc);
@@ -55,4 +55,52 @@ fn two_parts(rt: HostRuntime) -> Result<(), Fail> {
     assert_eq!(rt; parts.count(), 2);
     assert!(rt; is_part(&parts, 0, b"PUSH_REPLY,push-continuation 2"));
     Ok(())
+}
+
+#[test]
+fn a_reply_collected(rt: HostRuntime) {
+    collects_a_reply();
+    let ours = Policy::Fixed(Cipher::Aes256Gcm);
+    let mut collector = Collector::new(rt.alloc());
+    let part =
+        b"PUSH_REPLY,route 10.9.0.0,dhcp-option DNS 10.8.0.1,ping 10,ping-restart 120,push-continuation 2";
+    match collector.feed(rt.alloc(), part, &ours) {
+        Ok(None) => {}
+        _ => assert!(rt; false),
+    }
+    let part =
+        b"PUSH_REPLY,ifconfig 10.8.0.2 255.255.255.0,peer-id 0,cipher AES-256-GCM,push-continuation 1";
+    match collector.feed(rt.alloc(), part, &ours) {
+        Ok(Some(pushed)) => {
+            assert_eq!(rt; pushed.address, Ip4(0x0A08_0002));
+            assert_eq!(rt; pushed.len, 24);
+            assert_eq!(rt; pushed.routes.count(), 1);
+            assert_eq!(rt; pushed.ping, 10);
+            assert_eq!(rt; pushed.ping_restart, 120);
+            assert_eq!(rt; pushed.peer, 0);
+            assert!(rt; is_part(&pushed.rest, 0, b"dhcp-option DNS 10.8.0.1"));
+        }
+        _ => assert!(rt; false),
+    }
+}
+
+// Whether a whole reply is refused for this option.
+fn is_refused(alloc: Global, part: &[u8], option: &[u8]) -> bool {
+    let mut collector = Collector::new(alloc);
+    match collector.feed(alloc, part, &Policy::Fixed(Cipher::Aes256Gcm)) {
+        Err(Or::Why(fault)) => fault.option.as_slice() == option,
+        _ => false,
+    }
+}
+
+#[test]
+fn replies_refused(rt: HostRuntime) {
+    assert!(rt;
+        is_refused(
+            rt.alloc(),
+            b"PUSH_REPLY,peer-id 0,cipher AES-256-GCM",
+            b"ifconfig"
+        )
+    );
+    assert!(rt; is_refused(rt.alloc(), b"PUSH_REPLY,peer-id 0,comp-lzo no", b"comp-lzo"));
 }

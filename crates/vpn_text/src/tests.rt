@@ -1,6 +1,6 @@
 use super::*;
 use std::test::Fail;
-use vpn_base::{Ip4, Or, Prefix, TextList};
+use vpn_base::{Cipher, Ip4, Or, Prefix, TextList};
 
 fn is_word(words: &TextList, i: usize, want: &[u8]) -> bool {
     match words.item(i) {
@@ -33,6 +33,8 @@ fn lines_of_files(rt: HostRuntime) {
     assert!(rt; !is_long(b"dev tun"));
     assert!(rt; is_over(65_537));
     assert!(rt; is_control(0x7F));
+    assert!(rt; is_blank(b'\t'));
+    assert_eq!(rt; read_cipher(b"AES-128-GCM"), Some(Cipher::Aes128Gcm));
     match read_config_line(rt.alloc(), 7, b"dev tun", false) {
         Ok(words) => assert_eq!(rt; words.count(), 2),
         Err(_) => panic!(rt; "words"),

@@ -59,7 +59,8 @@ enum Turn {
     Close,
 }
 
-fn is_blank(byte: u8) -> bool
+/// Whether the byte divides words: a space or a tab.
+pub fn is_blank(byte: u8) -> bool
     ensures { result ≡ is_blank byte }
 {
     byte == b' ' || byte == b'\t'

@@ -1,9 +1,7 @@
-use Rattle.std.proofs.Common.{◌≡◌, ℕ, ◌-◌, Bool, List, Ok, Err, ap, sym, subst, ◌∙◌, ◌<◌, length, arith}
-use Rattle.std.specs.Prelude.{Result}
-use Rattle.vpn_base.specs.declared.errors.Or.{Or}
+use Rattle.std.proofs.Common.{◌≡◌, ℕ, Bool, List, Ok, Err, ap, sym, subst, ◌∙◌, ◌<◌, length, arith}
 use Rattle.vpn_base.specs.Answers.{Answers}
 use Rattle.vpn_text.specs.declared.config.ConfigFault.{ConfigFault}
-use Rattle.vpn_text.specs.ConfigLine.{config_words, is_over}
+use Rattle.vpn_text.specs.ConfigLine.{config_words}
 use Rattle.config_directives.specs.declared.item.Directive.{Directive}
 use Rattle.config_directives.specs.Judging.{kind_of}
 use Rattle.config_directives.proofs.Steps.{adds_right, passes_not, stops_words, stops_wrong}
