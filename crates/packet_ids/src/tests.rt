@@ -10,6 +10,7 @@ fn ids_are_given_out_once(rt: HostRuntime) {
     assert_eq!(rt; ids.next(), Ok(0xFFFFFFFF));
     assert_eq!(rt; ids.next(), Err(Spent));
     assert_eq!(rt; ids.last(), 0xFFFFFFFF);
+    assert_eq!(rt; SendIds::at(0).next(), Ok(1));
 }
 
 #[test]
@@ -25,9 +26,6 @@ fn ids_are_judged(rt: HostRuntime) -> Result<(), Fail> {
         (0, m),
         (102, m),
         (100, m),
-        (101, Moment(15_001)),
-        (166, Moment(15_001)),
-        (165, Moment(30_001)),
     ];
     let answers = judge_ids(rt.alloc(), 64, 15, &arrivals)?;
     let wanted = [
@@ -40,9 +38,19 @@ fn ids_are_judged(rt: HostRuntime) -> Result<(), Fail> {
         Freshness::Zero,
         Freshness::Fresh,
         Freshness::Seen,
-        Freshness::Late,
+    ];
+    assert_eq!(rt; answers.as_slice(), wanted.as_slice());
+    let arrivals = [(5, m), (4, Moment(15_000)), (3, Moment(15_001))];
+    let answers = judge_ids(rt.alloc(), 64, 15, &arrivals)?;
+    let wanted = [Freshness::Fresh, Freshness::Fresh, Freshness::Late];
+    assert_eq!(rt; answers.as_slice(), wanted.as_slice());
+    // 9 has the place of 1, which the jump to 10 has passed
+    let answers = judge_ids(rt.alloc(), 4, 0, &[(1, m), (10, m), (9, m), (9, m)])?;
+    let wanted = [
         Freshness::Fresh,
         Freshness::Fresh,
+        Freshness::Fresh,
+        Freshness::Seen,
     ];
     assert_eq!(rt; answers.as_slice(), wanted.as_slice());
     Ok(())
