@@ -1,4 +1,3 @@
-pub mod Head
 pub mod SealedPacket
-pub mod Parts
-pub mod Laws
+pub mod Opening
+pub mod internal

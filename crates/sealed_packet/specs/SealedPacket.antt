@@ -29,6 +29,10 @@ packet sealed implicit kid peer id inner =
 abbrev pub peer_in : List ℕ → ℕ
 peer_in datagram = from_be_bytes w32 (0 ∷ take 3 (drop 1 datagram))
 
+-- the packet id that stands in a data packet, behind the peer id
+abbrev pub id_in : List ℕ → ℕ
+id_in datagram = from_be_bytes w32 (take 4 (drop 4 datagram))
+
 -- the datagram is the packet of this inner packet under this packet id, for the peer id that stands in it
 pub record Opens (sealed : Sealing) (implicit : List ℕ) (kid : ℕ) (datagram : List ℕ) (id : ℕ) (inner : List ℕ) : Type 0 where
   pub peer_fits : peer_in datagram < 2 ^ 24

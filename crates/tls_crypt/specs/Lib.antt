@@ -1,5 +1,6 @@
 pub mod Wrapped
 pub mod Packets
+pub mod Unwrapping
 pub mod Lending
-pub mod Laws
 pub mod StaticKey
+pub mod internal

@@ -38,11 +38,11 @@ fault_of None = None
 fault_of (Some fault) = Some (fault.line, fault.kind)
 
 -- what a turn says: so many bytes more were read and their output is written, or the run has ended
-abbrev pub Turned : Turn → Holding → Option (List ℕ) → Option (List ℕ) → ℕ → Progress → Counts → Type 0
-Turned (More n) holding before after at reader counts = Going holding before after (at + n) reader
-Turned (End refusal) holding before after at reader counts = Ended refusal holding before after counts
+abbrev pub Turned : Turn → Holding → Option (List ℕ) → Option (List ℕ) → ℕ → Counts → Type 0
+Turned (More reader n) holding before after at counts = Going holding before after (at + n) reader
+Turned (End refusal) holding before after at counts = Ended refusal holding before after counts
 
--- a turn that goes on has this fact of the bytes that it read
-abbrev pub Went : Turn → (ℕ → Type 0) → Type 0
-Went (More n) P = P n
+-- a turn that goes on has this fact of the reader and of how many bytes it read
+abbrev pub Went : Turn → (Progress → ℕ → Type 0) → Type 0
+Went (More reader n) P = P reader n
 Went (End refusal) P = Unit {0}

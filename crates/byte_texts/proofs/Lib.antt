@@ -1,0 +1,3 @@
+mod Elements
+pub mod Parts
+pub mod Searching
