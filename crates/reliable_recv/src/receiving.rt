@@ -170,8 +170,10 @@ impl RecvSide {
     }
 
     /// Takes the room for the next payload, of at most so many bytes. It is Ok where that room is there.
+    #[tactic(auto, unfolding(crate::specs::Sides::Stands))]
     pub fn reserve(&mut self, bytes: usize) -> Result<(), NoMemory>
         ensures same { self.new.kept ≡ self.old.kept }
+        ensures stands { (h : Receiving) → Stands self.old h → Stands self.new h }
         ensures ok { OnOk result (bytes ≤ self.new.spare) }
         ensures grows { self.old.spare ≤ self.new.spare }
         ensures fits { bytes ≤ self.old.spare → IsOk result }
