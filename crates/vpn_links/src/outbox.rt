@@ -3,8 +3,8 @@
 ghost use Rattle.std.specs.Prelude.{◌≡◌, ◌+◌, ◌-◌, ◌<◌, ◌≤◌, [], ◌∷◌, ◌++◌, length, take, map, min, vec_len, vec_capacity, IfOk, IsOk, OnOk, OnErr, slice_get};
 ghost use Rattle.std.specs.Option.{option_map};
 ghost use Rattle.std.specs.List.{AllByRecursion};
-ghost use Rattle.vpn_links.specs.Actions.{Configure, Holds, IsPlain, action, carried, carried_by, carried_bytes, on_wire, staged_bytes};
-ghost use Rattle.vpn_links.specs.Store.{IsKeptWithin, IsWithin, kept_action, kept_datagram, own, part};
+ghost use Rattle.vpn_links.specs.Actions.{Configure, HasRoom, Holds, IsPlain, action, carried, carried_by, carried_bytes, on_wire, staged_bytes};
+ghost use Rattle.vpn_links.specs.internal.Store.{IsKeptWithin, IsWithin, kept_action, kept_datagram, own, part};
 
 use crate::effects::Effect;
 use crate::store::{Kept, Setup, Span, Staged};
@@ -30,7 +30,7 @@ pub struct Outbox {
 impl Model for Outbox {
     ghost use Rattle.std.specs.Prelude.{◌+◌, ◌-◌, length, map, min, vec_len, vec_capacity};
     ghost use Rattle.vpn_links.specs.Actions.{Contents};
-    ghost use Rattle.vpn_links.specs.Store.{IsSound, kept_action, staged_datagram};
+    ghost use Rattle.vpn_links.specs.internal.Store.{IsSound, kept_action, staged_datagram};
 
     ghost Value = { Contents };
 
@@ -62,7 +62,7 @@ fn put(store: &mut Vec<u8>, bytes: &[u8]) -> Result<Span, NoMemory>
 }
 
 // The bytes at a place of the store.
-#[tactic(auto, unfolding(crate::specs::Store::part))]
+#[tactic(auto, unfolding(crate::specs::internal::Store::part))]
 fn lend(store: &[u8], span: Span) -> &[u8]
     requires { IsWithin (length store.now) span }
     ensures { result.now ≡ part store.now span }
@@ -214,7 +214,7 @@ impl Outbox {
     /// one that was emptied by [`Outbox::cut`] need not have it.
     pub fn make(alloc: Global) -> Result<Outbox, NoMemory>
         ensures empty { IfOk result (λ o. Holds o [] []) }
-        ensures spare { IfOk result (λ o. (4 ≤ o.spare_effects) × (4096 ≤ o.spare_bytes)) }
+        ensures spare { IfOk result HasRoom }
     {
         Ok(Outbox {
             effects: Vec::with_capacity(alloc, EFFECTS)?,
@@ -228,7 +228,7 @@ impl Outbox {
         ensures empty { Holds self.new [] [] }
         ensures effects { self.new.spare_effects ≡ self.old.spare_effects + length self.old.effects + length self.old.staged }
         ensures bytes { self.old.spare_bytes + carried_by self.old.effects + staged_bytes self.old.staged ≤ self.new.spare_bytes }
-        ensures least { (4 ≤ self.new.spare_effects) × (4096 ≤ self.new.spare_bytes) }
+        ensures least { HasRoom self.new }
     {
         self.effects.clear();
         self.staged.clear();
