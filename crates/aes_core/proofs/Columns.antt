@@ -3,10 +3,10 @@ use Rattle.std.proofs.Common.{◌≡◌, ℕ, List, [], ◌∷◌, bit_xor, sym,
 use Rattle.std.proofs.lemmas.Nat.{xor_comm}
 use lib.Bits.{xor_assoc}
 use Rattle.aes_core.specs.Cipher.{mixed_column}
-use Rattle.aes_core.specs.Columns.{mixed_part}
+use Rattle.aes_core.specs.internal.Columns.{mixed_part}
 use Rattle.aes_core.specs.Field.{product, xor_bytes}
 use Rattle.aes_core.specs.SBox.{sbox}
-use Rattle.aes_core.specs.Words.{word_bytes}
+use Rattle.aes_core.specs.internal.Words.{word_bytes}
 use Rattle.aes_core.proofs.InPlace.{xor_bytes-swap}
 use Rattle.aes_core.proofs.WordBytes.{word_bytes-xor}
 

@@ -3,7 +3,7 @@ use Rattle.std.proofs.Common.{◌≡◌, ℕ, ◌+◌, ◌-◌, ◌*◌, ◌/◌
 use Rattle.std.specs.Prelude.{map, flat_map, if◌then◌else◌}
 use Rattle.aes_core.specs.Field.{xor_bytes}
 use Rattle.aes_core.specs.KeyExpansion.{added_word, key_length, key_words, next_word, rcon, rot_word, sub_word, word_at}
-use Rattle.aes_core.specs.Words.{word_bytes}
+use Rattle.aes_core.specs.internal.Words.{word_bytes}
 use Rattle.aes_core.proofs.RoundSteps.{word_of}
 use Rattle.aes_core.proofs.WordBytes.{word_bytes-xor}
 use Rattle.std.proofs.lemmas.List.{map-append}

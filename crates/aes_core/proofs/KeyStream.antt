@@ -5,9 +5,9 @@ use Rattle.aes_core.specs.Cipher.{cipher, cipher_under, round_key, shift_rows, s
 use Rattle.aes_core.specs.CounterMode.{key_stream, output_blocks}
 use Rattle.aes_core.specs.Field.{xor_bytes}
 use Rattle.aes_core.specs.KeyExpansion.{key_expansion, round_count}
-use Rattle.aes_core.specs.Schedule.{IsSchedule, key_bytes, schedule_words}
+use Rattle.aes_core.specs.internal.Schedule.{IsSchedule, key_bytes, schedule_words}
 use Rattle.aes_core.proofs.InPlace.{xor_bytes-append, xor_bytes-take}
-use Rattle.aes_core.specs.Laws.{length-xor_bytes}
+use Rattle.aes_core.proofs.Laws.{length-xor_bytes}
 
 -- what a key schedule gives is the cipher for the key that it begins with
 pub cipher_of : (words : List ℕ) (rounds : ℕ) (key input : List ℕ) → IsSchedule words rounds → key_bytes words rounds ≡ key

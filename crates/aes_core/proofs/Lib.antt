@@ -6,3 +6,4 @@ pub mod RoundSteps
 pub mod SharedFacts
 pub mod Expansion
 pub mod KeyStream
+pub mod Laws

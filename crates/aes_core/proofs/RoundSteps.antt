@@ -5,9 +5,9 @@ use Rattle.std.proofs.lemmas.List.{get_or-map, get_or-take, length-take-le}
 use Rattle.aes_core.specs.Cipher.{cipher_under, final_round, round, round_key, state_after}
 use Rattle.aes_core.specs.Field.{xor_bytes}
 use Rattle.aes_core.specs.KeyExpansion.{word_at}
-use Rattle.aes_core.specs.Schedule.{schedule_words}
-use Rattle.aes_core.specs.SharedRounds.{two_rounds}
-use Rattle.aes_core.specs.Words.{four_words, word_bytes}
+use Rattle.aes_core.specs.internal.Schedule.{schedule_words}
+use Rattle.aes_core.specs.internal.SharedRounds.{two_rounds}
+use Rattle.aes_core.specs.internal.Words.{four_words, word_bytes}
 
 -- a word of the schedule, from the first n words
 pub word_of : (words : List ℕ) (n i : ℕ) → n ≤ length words → i < n → word_at (map word_bytes (take n words)) i ≡ word_bytes (get_or words i 0)

@@ -3,11 +3,11 @@ use Rattle.std.proofs.Common.{◌≡◌, ℕ, ◌+◌, ◌/◌, ◌%◌, ◌^◌
 use Rattle.std.proofs.lemmas.Nat.{shr-shr}
 use Rattle.std.specs.Int.{byte_at, to_be_bytes, w128}
 use Rattle.aes_core.specs.Cipher.{add_round_key, mixed_column, round}
-use Rattle.aes_core.specs.Columns.{mixed_part}
+use Rattle.aes_core.specs.internal.Columns.{mixed_part}
 use Rattle.aes_core.specs.Field.{xor_bytes}
 use Rattle.aes_core.specs.SBox.{sbox}
-use Rattle.aes_core.specs.SharedRounds.{two_rounds}
-use Rattle.aes_core.specs.Words.{four_words, state_bytes, word_bytes}
+use Rattle.aes_core.specs.internal.SharedRounds.{two_rounds}
+use Rattle.aes_core.specs.internal.Words.{four_words, state_bytes, word_bytes}
 use Rattle.aes_core.specs.declared.words.State.{State}
 
 -- round 1: only column 0 depends on the last byte

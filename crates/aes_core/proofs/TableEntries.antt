@@ -4,10 +4,10 @@ use Rattle.std.specs.Prelude.{map}
 use Rattle.std.specs.List.{range_with_len}
 use Rattle.std.proofs.lemmas.List.{get_or-map}
 use Rattle.std.proofs.lemmas.List.FromFn.{get_or-map-range_with_len}
-use Rattle.aes_core.specs.Columns.{mixed_part}
+use Rattle.aes_core.specs.internal.Columns.{mixed_part}
 use Rattle.aes_core.specs.Field.{product, product_below, times_power}
 use Rattle.aes_core.specs.SBox.{affine, affine_below, inverse, inverse_below, sbox}
-use Rattle.aes_core.specs.Words.{word_bytes}
+use Rattle.aes_core.specs.internal.Words.{word_bytes}
 use Rattle.aes_core.specs.declared.tables.TheConstants.{ROUND_CONSTANTS, ROUND_TABLE, SBOX}
 
 -- the S-box's table is the S-box

@@ -4,7 +4,7 @@ use Rattle.std.proofs.lemmas.Nat.{and_mask, shr-shr, xor_shr, xor_mod}
 use Rattle.std.proofs.Math.Seq.{drop-cons}
 use Rattle.std.specs.Int.{from_be_bytes, to_be_bytes, w128}
 use Rattle.aes_core.specs.Field.{xor_bytes}
-use Rattle.aes_core.specs.Words.{word_bytes}
+use Rattle.aes_core.specs.internal.Words.{word_bytes}
 
 xor_byte : (x y k : ℕ) → bit_xor x y / 2 ^ k % 2 ^ 8 ≡ bit_xor (x / 2 ^ k % 2 ^ 8) (y / 2 ^ k % 2 ^ 8)
 xor_byte x y k = ap (λ n. n % 2 ^ 8) (xor_shr x y k) ∙ xor_mod (x / 2 ^ k) (y / 2 ^ k) 8

@@ -3,8 +3,4 @@ pub mod SBox
 pub mod Cipher
 pub mod KeyExpansion
 pub mod CounterMode
-pub mod Words
-pub mod Schedule
-pub mod Columns
-pub mod SharedRounds
-pub mod Laws
+pub mod internal

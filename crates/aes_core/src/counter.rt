@@ -3,7 +3,7 @@
 ghost use Rattle.std.specs.Prelude.{◌≡◌, ◌+◌, ◌≤◌, ◌++◌, length, take, drop};
 ghost use Rattle.std.specs.Int.{to_be_bytes, w128};
 ghost use Rattle.aes_core.specs.Field.{xor_bytes};
-ghost use Rattle.aes_core.specs.Words.{state_bytes, word_bytes};
+ghost use Rattle.aes_core.specs.internal.Words.{state_bytes, word_bytes};
 
 use crate::words::{State, load_word};
 

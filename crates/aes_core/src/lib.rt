@@ -37,7 +37,7 @@ impl Model for AesKey {
 
     ghost Value = { List ℕ };
 
-    ghost use Rattle.aes_core.specs.Schedule.{IsExpanded, key_of};
+    ghost use Rattle.aes_core.specs.internal.Schedule.{IsExpanded, key_of};
 
     ghost view = { key_of };
 

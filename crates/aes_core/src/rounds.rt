@@ -5,8 +5,8 @@ ghost use Rattle.std.specs.Int.{byte_at};
 ghost use Rattle.aes_core.specs.Cipher.{add_round_key, cipher_under, final_round, mixed_column, round, state_after};
 ghost use Rattle.aes_core.specs.Field.{xor_bytes};
 ghost use Rattle.aes_core.specs.SBox.{sbox};
-ghost use Rattle.aes_core.specs.Schedule.{schedule_words};
-ghost use Rattle.aes_core.specs.Words.{four_words, state_bytes, word_bytes};
+ghost use Rattle.aes_core.specs.internal.Schedule.{schedule_words};
+ghost use Rattle.aes_core.specs.internal.Words.{four_words, state_bytes, word_bytes};
 
 use crate::schedule::SCHEDULE_LEN;
 use crate::tables::{mixed_row0, mixed_row1, mixed_row2, mixed_row3, sbox};

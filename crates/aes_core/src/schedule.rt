@@ -2,8 +2,8 @@
 
 ghost use Rattle.std.specs.Prelude.{◌≡◌, ◌/◌, ◌≤◌, ◌⊎◌, length};
 ghost use Rattle.aes_core.specs.KeyExpansion.{added_word, key_expansion, round_count, sub_word, rot_word};
-ghost use Rattle.aes_core.specs.Schedule.{key_bytes, schedule_words};
-ghost use Rattle.aes_core.specs.Words.{word_bytes};
+ghost use Rattle.aes_core.specs.internal.Schedule.{key_bytes, schedule_words};
+ghost use Rattle.aes_core.specs.internal.Words.{word_bytes};
 
 use crate::tables::{round_constant, sbox};
 use crate::words::load_word;

@@ -4,11 +4,11 @@
 ghost use Rattle.std.specs.Prelude.{◌≡◌, ℕ, ◌+◌, ◌%◌, ◌^◌, ◌<◌};
 ghost use Rattle.std.specs.Int.{byte_at};
 ghost use Rattle.aes_core.specs.Cipher.{mixed_column};
-ghost use Rattle.aes_core.specs.Columns.{mixed_part};
+ghost use Rattle.aes_core.specs.internal.Columns.{mixed_part};
 ghost use Rattle.aes_core.specs.Field.{xor_bytes};
 ghost use Rattle.aes_core.specs.SBox.{sbox};
-ghost use Rattle.aes_core.specs.SharedRounds.{IsShared, first_column, second_state};
-ghost use Rattle.aes_core.specs.Words.{state_bytes, word_bytes};
+ghost use Rattle.aes_core.specs.internal.SharedRounds.{IsShared, first_column, second_state};
+ghost use Rattle.aes_core.specs.internal.Words.{state_bytes, word_bytes};
 
 use crate::counter::counter_block;
 use crate::rounds::{add_key, byte0, byte1, byte2, byte3, column};

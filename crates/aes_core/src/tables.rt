@@ -1,10 +1,10 @@
 //! The tables of the cipher: the S-box, and MixColumns of the S-box for each row.
 
 ghost use Rattle.std.specs.Prelude.{◌≡◌, ◌-◌, ◌≤◌};
-ghost use Rattle.aes_core.specs.Columns.{mixed_part};
+ghost use Rattle.aes_core.specs.internal.Columns.{mixed_part};
 ghost use Rattle.aes_core.specs.Field.{times_power};
 ghost use Rattle.aes_core.specs.SBox.{sbox};
-ghost use Rattle.aes_core.specs.Words.{word_bytes};
+ghost use Rattle.aes_core.specs.internal.Words.{word_bytes};
 
 // The S-box (FIPS 197, 5.1.1).
 static SBOX: [u8; 256] = [

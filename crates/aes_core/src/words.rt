@@ -1,7 +1,7 @@
 //! Words of 32 bits from bytes and back, high byte first.
 
 ghost use Rattle.std.specs.Prelude.{◌≡◌, ◌+◌, ◌≤◌, length, take, drop};
-ghost use Rattle.aes_core.specs.Words.{state_bytes, word_bytes};
+ghost use Rattle.aes_core.specs.internal.Words.{state_bytes, word_bytes};
 
 // The word at byte `at`.
 #[inline(always)]

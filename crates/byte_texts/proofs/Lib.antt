@@ -1,2 +1,3 @@
 mod Elements
+pub mod Parts
 pub mod Searching

@@ -2,6 +2,7 @@
 use Rattle.std.proofs.Common.{◌≡◌, ℕ, zero, suc, ◌<◌, inl, inr, Bool, true, List, [], ◌∷◌, length, map, get_or, Option, Some, None, refl, ap, subst, arith}
 use Rattle.std.specs.Prelude.{Contains}
 use Rattle.byte_texts.specs.Texts.{IsBytes, bytes, text_with, texts_of_length}
+use Rattle.byte_texts.proofs.Parts.{IsBytes-cons}
 use Rattle.byte_texts.proofs.Elements.{first_or_later, found_passes, in_joined, in_mapped, in_none, in_range, is_first, none_passes, of_joined, of_mapped, of_range}
 
 in_bytes : (b : ℕ) → b < 256 → Contains bytes b
@@ -23,13 +24,6 @@ is_text (suc n) (b ∷ text) size small =
     (in_mapped (λ t. b ∷ t) (texts_of_length n) text (is_text n text (omega arith) (λ i. small (suc i))))
 
 -- nothing else is one
-longer : (n b : ℕ) (text : List ℕ) → b < 256 → (length text ≡ n) × IsBytes text → (length (b ∷ text) ≡ suc n) × IsBytes (b ∷ text)
-longer n b text small h = (ap suc h.0, small_at)
-  where
-    small_at : (i : ℕ) → get_or (b ∷ text) i 0 < 256
-    small_at zero = small
-    small_at (suc i) = h.1 i
-
 pub only_text : (n : ℕ) (text : List ℕ) → Contains (texts_of_length n) text → (length text ≡ n) × IsBytes text
 unfolding texts_of_length
 only_text zero text h =
@@ -42,7 +36,7 @@ only_text (suc n) text h =
     let b = by_byte.0 in
     let behind = of_mapped (λ t. b ∷ t) (texts_of_length n) text by_byte.2 in
     subst (λ (t : List ℕ). (length t ≡ suc n) × IsBytes t) behind.2
-    (longer n b behind.0 (of_bytes b by_byte.1) (only_text n behind.0 behind.1))
+    (let rest = only_text n behind.0 behind.1 in (ap suc rest.0, IsBytes-cons b behind.0 (of_bytes b by_byte.1) rest.1))
 
 -- what is found passes, and is a text of that length
 pub found_text : (passes : List ℕ → Bool) (n : ℕ) (text : List ℕ) → text_with passes n ≡ Some text → (passes text ≡ true) × (length text ≡ n) × IsBytes text

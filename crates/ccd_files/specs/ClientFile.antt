@@ -1,12 +1,10 @@
 -- What a client's file says, line by line.
-use Rattle.std.specs.Prelude.{◌≡◌, ℕ, ◌+◌, nat_lt, is_some, Bool, true, false, List, [], ◌∷◌, ◌++◌, Some, None, Result, Ok, Err, if◌then◌else◌}
-use Rattle.vpn_base.specs.declared.errors.Or.{Or}
-use Rattle.vpn_base.specs.declared.errors.Or.TheVariants.{Memory, Why}
+use Rattle.std.specs.Prelude.{ℕ, ◌+◌, is_some, Bool, true, false, List, [], ◌∷◌, ◌++◌, Some, None, Result, Ok, Err, if◌then◌else◌}
 use Rattle.vpn_base.specs.Lines.{Line, lines_of, content, size}
 use Rattle.vpn_text.specs.declared.config.ConfigFault.{ConfigFault}
 use Rattle.vpn_text.specs.declared.config.ConfigKind.{ConfigKind}
 use Rattle.vpn_text.specs.declared.config.ConfigKind.TheVariants.{Repeated}
-use Rattle.vpn_text.specs.ConfigLine.{config_words}
+use Rattle.vpn_text.specs.ConfigLine.{config_words, is_over}
 use Rattle.ccd_files.specs.declared.client_file.Ccd.{Ccd}
 use Rattle.ccd_files.specs.declared.directives.Directive.{Directive}
 use Rattle.ccd_files.specs.declared.directives.Directive.TheVariants.{Address, Iroute, Push, Reset, Disable}
@@ -53,20 +51,9 @@ and_then (Err fault) rest = Err fault
 abbrev pub lines_added : Ccd → ℕ → ℕ → List Line → Result Ccd ConfigFault
 lines_added ccd before bytes [] = Ok ccd
 lines_added ccd before bytes (line ∷ lines) =
-    and_then (line_added ccd (before + 1) (content line) (nat_lt 65536 (bytes + size line)))
+    and_then (line_added ccd (before + 1) (content line) (is_over (bytes + size line)))
     (λ next. lines_added next (before + 1) (bytes + size line) lines)
 
 -- what a file says, or the fault of its first faulty line
 unfoldable pub ccd : List ℕ → Result Ccd ConfigFault
 ccd text = lines_added no_ccd 0 0 (lines_of text)
-
--- a refusal is the fault that the definition has, unless it is want of memory
-abbrev pub Refused : {E : Type 0} → Or E → Result Ccd E → Type 0
-Refused Memory wanted = Unit {0}
-Refused (Why e) wanted = wanted ≡ Err e
-
--- the refusal of a line, by that of its directive; memory may run out before its word is copied
-abbrev pub IsFaultOf : ℕ → List ℕ → Or ConfigKind → Or ConfigFault → Type 0
-IsFaultOf number word e Memory = Unit {0}
-IsFaultOf number word Memory (Why fault) = ⊥
-IsFaultOf number word (Why kind) (Why fault) = fault ≡ record { line = number; kind = kind; word = word }

@@ -1,2 +1,3 @@
 pub mod Directives
 pub mod ClientFile
+pub mod internal

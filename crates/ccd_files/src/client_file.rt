@@ -23,7 +23,8 @@ pub struct Ccd {
 }
 
 impl Ccd {
-    ghost use Rattle.ccd_files.specs.ClientFile.{no_ccd, added, Refused};
+    ghost use Rattle.ccd_files.specs.ClientFile.{no_ccd, added};
+    ghost use Rattle.ccd_files.specs.internal.Refusals.{Refused};
 
     pub(crate) fn new(alloc: Global) -> Ccd
         ensures { result ≡ no_ccd }

@@ -2,17 +2,15 @@
 
 ghost use Rattle.std.specs.Prelude.{◌≡◌, OnOk, IfErr, Ok, Err};
 ghost use Rattle.vpn_base.specs.Answers.{Answers};
-ghost use Rattle.ccd_files.specs.ClientFile.{ccd, line_added, words_added, faulted, added_from, Refused, IsFaultOf};
+ghost use Rattle.ccd_files.specs.ClientFile.{ccd, line_added, words_added, faulted, added_from};
+ghost use Rattle.ccd_files.specs.internal.Refusals.{Refused, IsFaultOf};
 ghost use Rattle.ccd_files.specs.Directives.{name_of, directive_of};
 
 use crate::client_file::Ccd;
 use crate::directives::{directive_of, name_of};
 use std::alloc::Global;
 use vpn_base::{Or, Text, TextList, next_line};
-use vpn_text::{ConfigFault, ConfigKind, read_config_line};
-
-// The greatest length of a file, in bytes.
-const LONGEST_FILE: usize = 65536;
+use vpn_text::{ConfigFault, ConfigKind, is_over, read_config_line};
 
 fn add_directive(
     alloc: Global,
@@ -101,7 +99,7 @@ pub fn read_ccd(alloc: Global, text: &[u8]) -> Result<Ccd, Or<ConfigFault>>
     'lines: while let Some((line, behind)) = next_line(rest) {
         number += 1;
         bytes += rest.len() - behind.len();
-        match add_line(alloc, &mut ccd, number, line, bytes > LONGEST_FILE) {
+        match add_line(alloc, &mut ccd, number, line, is_over(bytes)) {
             Ok(()) => {}
             Err(e) => return Err(e),
         }

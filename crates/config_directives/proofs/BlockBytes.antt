@@ -3,7 +3,8 @@ use Rattle.std.proofs.Common.{◌≡◌, ℕ, ◌+◌, ◌||◌, List, [], ◌�
 use Rattle.std.specs.Prelude.{option_map, bytes_eq}
 use Rattle.std.proofs.lemmas.List.{append_assoc, append-nil}
 use Rattle.vpn_base.specs.Lines.{Line, content, lines_of, size}
-use Rattle.config_directives.specs.Entries.{is_over, until_end}
+use Rattle.vpn_text.specs.ConfigLine.{is_over}
+use Rattle.config_directives.specs.Entries.{until_end}
 
 -- the line that ends the block, or in which the file grows too long
 pub until_found : (last line : List ℕ) (before : ℕ) (first : Line) (lines later : List Line) → lines ≡ first ∷ later → content first ≡ line

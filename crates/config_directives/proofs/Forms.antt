@@ -5,7 +5,7 @@ use Rattle.vpn_base.specs.declared.names.Policy.{Policy}
 use Rattle.vpn_base.specs.declared.names.Policy.TheVariants.{Choose, Fixed}
 use Rattle.config_directives.specs.declared.item.Item.TheVariants.{Words}
 use Rattle.config_directives.specs.Items.{arguments_of}
-use Rattle.config_directives.specs.Arguments.{with_more}
+use Rattle.config_directives.specs.internal.Ciphers.{with_more}
 
 -- a word behind the name
 pub argument_at : (words : List (List ℕ)) (i : ℕ) → slice_get words (i + 1) ≡ slice_get (arguments_of (Words words)) i

@@ -7,13 +7,14 @@ use Rattle.vpn_base.specs.Answers.{Answers, IfWhy}
 use Rattle.vpn_base.specs.Lines.{Line, content, lines_of, size}
 use Rattle.vpn_text.specs.declared.config.ConfigFault.{ConfigFault}
 use Rattle.vpn_text.specs.declared.config.ConfigKind.{ConfigKind}
-use Rattle.vpn_text.specs.ConfigLine.{config_words, words_in}
+use Rattle.vpn_text.specs.ConfigLine.{config_words, words_in, is_over}
 use Rattle.vpn_text.specs.Words.{line_words}
 use Rattle.config_directives.specs.declared.item.Item.{Item}
 use Rattle.config_directives.specs.declared.item.Directive.{Directive}
 use Rattle.config_directives.specs.Items.{name_of}
-use Rattle.config_directives.specs.Entries.{FileLine, Faulty, block_behind, entries, line_behind, line_entries, line_with, inside_entries, inside_kind, is_over, item_on, outside_entries}
-use Rattle.config_directives.specs.Judging.{Adds, Stops, judged, kind_of, unless_wrong}
+use Rattle.config_directives.specs.Entries.{FileLine, Faulty, block_behind, entries, line_behind, line_entries, line_with, inside_entries, inside_kind, item_on, outside_entries}
+use Rattle.config_directives.specs.Judging.{judged, kind_of, unless_wrong}
+use Rattle.config_directives.specs.internal.Steps.{Adds, Stops}
 
 -- a fault of a line
 pub stops_here : (before : List Directive) (fault : ConfigFault) → Stops before (Faulty fault ∷ []) fault

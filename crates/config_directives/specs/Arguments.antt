@@ -6,32 +6,17 @@ use Rattle.vpn_base.specs.declared.address.Ip4.{Ip4}
 use Rattle.vpn_base.specs.declared.names.Cipher.{Cipher}
 use Rattle.vpn_base.specs.declared.names.Cipher.TheVariants.{Aes128Gcm, Aes256Gcm}
 use Rattle.vpn_base.specs.declared.names.Policy.{Policy}
-use Rattle.vpn_base.specs.declared.names.Policy.TheVariants.{Choose, Fixed}
+use Rattle.vpn_base.specs.declared.names.Policy.TheVariants.{Choose}
 use Rattle.vpn_base.specs.Address.{ip4_of}
 use Rattle.vpn_base.specs.Network.{Network}
 use Rattle.vpn_base.specs.Number.{number_of}
+use Rattle.vpn_base.specs.WordCount.{one_of, two_of, three_of}
+use Rattle.vpn_text.specs.CipherWord.{cipher_named}
 use Rattle.vpn_text.specs.Mask.{masked_network}
 use Rattle.vpn_text.specs.Quoted.{may_be_pushed}
-
--- no words
-abbrev pub are_none : List (List ℕ) → Bool
-are_none [] = true
-are_none (word ∷ words) = false
-
--- exactly one
-abbrev pub one_of : List (List ℕ) → Option (List ℕ)
-one_of (a ∷ []) = Some a
-one_of _ = None
-
--- exactly two
-abbrev pub two_of : List (List ℕ) → Option (List ℕ × List ℕ)
-two_of (a ∷ b ∷ []) = Some (a, b)
-two_of _ = None
-
--- exactly three
-abbrev pub three_of : List (List ℕ) → Option (List ℕ × List ℕ × List ℕ)
-three_of (a ∷ b ∷ c ∷ []) = Some (a, b, c)
-three_of _ = None
+use Rattle.config_directives.specs.declared.numbers.NumberDirective.{NumberDirective}
+use Rattle.config_directives.specs.declared.numbers.NumberDirective.TheVariants.{Port}
+use Rattle.config_directives.specs.Numbers.{range_of}
 
 -- two values, if both are there
 abbrev pub both : {A B : Type 0} → Option A → Option B → Option (A × B)
@@ -55,9 +40,13 @@ number_in low high word = if_passes (nat_le low) (number_of high word)
 abbrev pub one_number : ℕ → ℕ → List (List ℕ) → Option ℕ
 one_number low high arguments = option_and_then (number_in low high) (one_of arguments)
 
--- a port
+-- the number that stands behind the name of a directive of one number
+abbrev pub number_behind : NumberDirective → List (List ℕ) → Option ℕ
+number_behind number arguments = one_number (range_of number).low (range_of number).high arguments
+
+-- a port, where another directive has one
 abbrev pub port_of : List ℕ → Option ℕ
-port_of word = number_in 1 65535 word
+port_of word = number_in (range_of Port).low (range_of Port).high word
 
 -- `server NET MASK`: a network whose mask has 8 to 30 ones
 abbrev pub is_server_length : Network → Bool
@@ -121,33 +110,19 @@ route_of None None = None
 abbrev pub route_network : List (List ℕ) → Option Network
 route_network arguments = route_of (one_of arguments) (two_of arguments)
 
--- `data-ciphers LIST`: of the names between colons these two count, all others are passed over
-abbrev pub cipher_named : List ℕ → Option Cipher
-cipher_named name =
-    if bytes_eq name (codes "AES-256-GCM") then Some Aes256Gcm
-    else if bytes_eq name (codes "AES-128-GCM") then Some Aes128Gcm
-    else None
-
--- whether the second is the other one
+-- whether the second cipher is the other one
 abbrev pub is_other : Cipher → Cipher → Bool
 is_other Aes128Gcm Aes128Gcm = false
 is_other Aes128Gcm Aes256Gcm = true
 is_other Aes256Gcm Aes128Gcm = true
 is_other Aes256Gcm Aes256Gcm = false
 
--- each counts once, at its first place, and at least one has to
+-- each cipher counts once, at its first place, and there has to be one
 abbrev pub policy_of : List Cipher → Option Policy
 policy_of [] = None
 policy_of (first ∷ more) = Some (Choose first (find (is_other first) more))
 
--- what comes of more ciphers behind those that made this policy
-abbrev pub with_more : Option Policy → List Cipher → Option Policy
-with_more None more = policy_of more
-with_more (Some (Choose first None)) more = Some (Choose first (find (is_other first) more))
-with_more (Some (Choose first (Some second))) more = Some (Choose first (Some second))
-with_more (Some (Fixed only)) more = Some (Fixed only)
-
--- the ciphers of a list of names between colons
+-- `data-ciphers LIST`: the ciphers among the names between colons; all other names are passed over
 abbrev pub ciphers_in : List ℕ → List Cipher
 ciphers_in names = filter_map cipher_named (slice_split (λ byte. byte == 58) names)
 
@@ -155,10 +130,18 @@ ciphers_in names = filter_map cipher_named (slice_split (λ byte. byte == 58) na
 abbrev pub cipher_policy : List (List ℕ) → Option Policy
 cipher_policy arguments = option_and_then (λ names. policy_of (ciphers_in names)) (one_of arguments)
 
--- `replay-window N [T]`: N is 1 to 1,024 packet ids, and T 0 to 600 seconds, without it 15
+-- the width of the window against replayed packets, and its seconds, where nothing is said of them
+abbrev pub default_window : ℕ × ℕ
+default_window = (64, 15)
+
+-- 1 to 1,024 packet ids
+abbrev pub width_of : List ℕ → Option ℕ
+width_of word = number_in 1 1024 word
+
+-- `replay-window N [T]`: N is such a width, and T 0 to 600 seconds
 abbrev pub replay_of : Option (List ℕ) → Option (List ℕ × List ℕ) → Option (ℕ × ℕ)
-replay_of (Some width) two = both (number_in 1 1024 width) (Some 15)
-replay_of None (Some words) = both (number_in 1 1024 words.0) (number_in 0 600 words.1)
+replay_of (Some width) two = both (width_of width) (Some default_window.1)
+replay_of None (Some words) = both (width_of words.0) (number_in 0 600 words.1)
 replay_of None None = None
 
 -- the width and the seconds that stand behind `replay-window`

@@ -5,7 +5,7 @@ use Rattle.vpn_base.specs.Lines.{Line, content, size}
 use Rattle.vpn_text.specs.declared.config.ConfigFault.{ConfigFault}
 use Rattle.vpn_text.specs.declared.config.ConfigKind.{ConfigKind}
 use Rattle.vpn_text.specs.declared.config.ConfigKind.TheVariants.{Long, Control}
-use Rattle.vpn_text.specs.ConfigLine.{config_words}
+use Rattle.vpn_text.specs.ConfigLine.{config_words, is_long, is_over}
 use Rattle.vpn_text.specs.Words.{is_control}
 use Rattle.config_directives.specs.declared.item.Item.{Item}
 use Rattle.config_directives.specs.declared.item.Item.TheVariants.{Words, Block}
@@ -30,10 +30,6 @@ line_with number bytes reached = record { number = number; bytes = bytes; reache
 -- a line behind so many lines, which have so many bytes with their ends
 abbrev pub line_behind : ℕ → ℕ → Line → FileLine
 line_behind number before line = line_with (number + 1) (content line) (before + size line)
-
--- whether a file that has so many bytes up to the end of a line is too long with it
-abbrev pub is_over : ℕ → Bool
-is_over reached = nat_lt 65536 reached
 
 -- NAME of a word <NAME>; it is not empty and does not begin with a slash
 unfoldable pub block_name : List ℕ → Option (List ℕ)
@@ -83,7 +79,7 @@ has_control bytes = list_any is_control bytes
 -- what is wrong with a line within a block: it is too long, or has a control byte
 abbrev pub inside_kind : List ℕ → Bool → Option ConfigKind
 inside_kind bytes passes =
-    if nat_lt 1024 (length bytes) || passes then Some Long else if has_control bytes then Some Control else None
+    if is_long bytes || passes then Some Long else if has_control bytes then Some Control else None
 
 -- what it holds: nothing but that
 abbrev pub inside_entries : ℕ → Option ConfigKind → List Entry

@@ -1,5 +1,5 @@
 -- What is wrong with a directive.
-use Rattle.std.specs.Prelude.{◌≡◌, ℕ, ◌&&◌, ◌||◌, not, Bool, true, false, List, [], ◌∷◌, ◌++◌, Option, Some, None, is_some, is_none, Result, Ok, Err, if◌then◌else◌}
+use Rattle.std.specs.Prelude.{ℕ, ◌&&◌, ◌||◌, not, Bool, true, false, List, [], ◌∷◌, ◌++◌, Option, Some, None, is_some, is_none, Result, Ok, Err, if◌then◌else◌}
 use Rattle.std.specs.Option.{option_map_or}
 use Rattle.vpn_text.specs.declared.config.ConfigFault.{ConfigFault}
 use Rattle.vpn_text.specs.declared.config.ConfigKind.{ConfigKind}
@@ -61,11 +61,3 @@ unfoldable pub judged : List Directive → List Entry → Result (List Directive
 judged before [] = Ok before
 judged before (Faulty fault ∷ later) = Err fault
 judged before (Given d ∷ later) = unless_wrong d (kind_of before d.item) (judged (before ++ d ∷ []) later)
-
--- whatever follows, these entries add to the directives before them and make those after them
-pub record Adds (before : List Directive) (here : List Entry) (after : List Directive) : Type 0 where
-  pub adds : (later : List Entry) → judged before (here ++ later) ≡ judged after later
-
--- whatever follows, the fault stands in these entries
-pub record Stops (before : List Directive) (here : List Entry) (fault : ConfigFault) : Type 0 where
-  pub stops : (later : List Entry) → judged before (here ++ later) ≡ Err fault

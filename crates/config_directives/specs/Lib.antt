@@ -1,7 +1,9 @@
 pub mod Items
+pub mod Numbers
 pub mod Arguments
 pub mod Names
 pub mod Table
 pub mod Blocks
 pub mod Entries
 pub mod Judging
+pub mod internal

@@ -5,7 +5,10 @@ use Rattle.vpn_base.specs.declared.names.Role.{Role}
 use Rattle.vpn_base.specs.declared.names.Role.TheVariants.{Server, Client}
 use Rattle.config_directives.specs.declared.keyword.Keyword.{Keyword}
 use Rattle.config_directives.specs.declared.keyword.Keyword.TheVariants as keywords
-use Rattle.config_directives.specs.Arguments.{are_none, cipher_policy, device_name, is_console, is_subnet, is_udp, keepalive_times, local_address, one_number, one_of, push_text, remote_end, replay_window, route_network, server_network}
+use Rattle.vpn_base.specs.WordCount.{are_none, one_of}
+use Rattle.config_directives.specs.declared.numbers.NumberDirective.{NumberDirective}
+use Rattle.config_directives.specs.declared.numbers.NumberDirective.TheVariants as numbers
+use Rattle.config_directives.specs.Arguments.{cipher_policy, device_name, is_console, is_subnet, is_udp, keepalive_times, local_address, number_behind, push_text, remote_end, replay_window, route_network, server_network}
 
 -- a row of the table
 pub record Row : Type 0 where
@@ -80,7 +83,7 @@ row_at keywords.Port = record {
   side = None;
   needed = nowhere;
   repeats = false;
-  takes = λ words. is_some (one_number 1 65535 words);
+  takes = λ words. is_some (number_behind numbers.Port words);
 }
 row_at keywords.Local = record {
   name = codes "local";
@@ -143,7 +146,7 @@ row_at keywords.MaxClients = record {
   side = Some Server;
   needed = nowhere;
   repeats = false;
-  takes = λ words. is_some (one_number 1 4096 words);
+  takes = λ words. is_some (number_behind numbers.MaxClients words);
 }
 row_at keywords.Push = record {
   name = codes "push";
@@ -171,28 +174,28 @@ row_at keywords.RenegSec = record {
   side = None;
   needed = nowhere;
   repeats = false;
-  takes = λ words. is_some (one_number 0 1000000 words);
+  takes = λ words. is_some (number_behind numbers.RenegSec words);
 }
 row_at keywords.TranWindow = record {
   name = codes "tran-window";
   side = None;
   needed = nowhere;
   repeats = false;
-  takes = λ words. is_some (one_number 1 1000000 words);
+  takes = λ words. is_some (number_behind numbers.TranWindow words);
 }
 row_at keywords.HandWindow = record {
   name = codes "hand-window";
   side = None;
   needed = nowhere;
   repeats = false;
-  takes = λ words. is_some (one_number 1 1000000 words);
+  takes = λ words. is_some (number_behind numbers.HandWindow words);
 }
 row_at keywords.TlsTimeout = record {
   name = codes "tls-timeout";
   side = None;
   needed = nowhere;
   repeats = false;
-  takes = λ words. is_some (one_number 1 60 words);
+  takes = λ words. is_some (number_behind numbers.TlsTimeout words);
 }
 row_at keywords.ReplayWindow = record {
   name = codes "replay-window";
@@ -231,3 +234,12 @@ table = link_keywords ++ client_keywords ++ session_keywords
 -- the directive of a name, if there is one
 unfoldable pub keyword_of : List ℕ → Option Keyword
 keyword_of name = find (λ keyword. bytes_eq name (row_at keyword).name) table
+
+-- the row of a directive of one number
+abbrev pub number_row : NumberDirective → Row
+number_row numbers.Port = row_at keywords.Port
+number_row numbers.MaxClients = row_at keywords.MaxClients
+number_row numbers.RenegSec = row_at keywords.RenegSec
+number_row numbers.TranWindow = row_at keywords.TranWindow
+number_row numbers.HandWindow = row_at keywords.HandWindow
+number_row numbers.TlsTimeout = row_at keywords.TlsTimeout

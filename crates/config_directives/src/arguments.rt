@@ -4,12 +4,14 @@ ghost use Rattle.std.specs.Prelude.{◌≡◌, ◌≤◌, List, IfSome};
 ghost use Rattle.std.specs.Option.{option_copied};
 ghost use Rattle.std.specs.List.{cons_option};
 ghost use Rattle.config_directives.specs.Items.{arguments_of};
-ghost use Rattle.config_directives.specs.Arguments.{cipher_named, cipher_policy, ciphers_in, device_name, is_console, is_other, is_place, is_subnet, is_udp, is_word, keepalive_times, local_address, number_in, one_number, one_of, policy_of, port_of, push_text, remote_at, remote_end, replay_window, route_network, server_network, with_more};
+ghost use Rattle.config_directives.specs.Arguments.{cipher_policy, ciphers_in, default_window, device_name, is_console, is_other, is_place, is_subnet, is_udp, is_word, keepalive_times, local_address, number_in, one_number, policy_of, port_of, push_text, remote_at, remote_end, replay_window, route_network, server_network, width_of};
+ghost use Rattle.config_directives.specs.internal.Ciphers.{with_more};
 ghost use Rattle.vpn_base.specs.declared.names.Cipher.{Cipher};
 
 use crate::item::Item;
+use crate::numbers::NumberDirective;
 use vpn_base::{Cipher, Ip4, Policy, Prefix, read_ip4, read_number, split_once};
-use vpn_text::{is_push_text, read_network};
+use vpn_text::{is_push_text, read_cipher, read_network};
 
 // Whether exactly this word stands behind the name.
 fn is_word(item: &Item, word: &[u8]) -> bool
@@ -32,8 +34,8 @@ fn number_in(word: &[u8], low: u64, high: u64) -> Option<u64>
     }
 }
 
-/// The one number behind the name, if it is from `low` to `high`.
-pub fn one_number(item: &Item, low: u64, high: u64) -> Option<u64>
+// The one number behind the name, if it is from `low` to `high`.
+pub(crate) fn one_number(item: &Item, low: u64, high: u64) -> Option<u64>
     ensures same { result ≡ one_number low high (arguments_of item.now) }
     ensures within { IfSome result (λ n. n ≤ high) }
 {
@@ -46,7 +48,8 @@ pub fn one_number(item: &Item, low: u64, high: u64) -> Option<u64>
 fn port_of(word: &[u8]) -> Option<u16>
     ensures { result ≡ port_of word.now }
 {
-    match number_in(word, 1, 65_535) {
+    let range = NumberDirective::Port.range();
+    match number_in(word, u64::from(range.low), u64::from(range.high)) {
         None => None,
         Some(port) => Some(port as u16),
     }
@@ -166,18 +169,6 @@ pub fn route_network(item: &Item) -> Option<Prefix>
     }
 }
 
-fn cipher_named(name: &[u8]) -> Option<Cipher>
-    ensures { result ≡ cipher_named name.now }
-{
-    if name == b"AES-256-GCM".as_slice() {
-        Some(Cipher::Aes256Gcm)
-    } else if name == b"AES-128-GCM".as_slice() {
-        Some(Cipher::Aes128Gcm)
-    } else {
-        None
-    }
-}
-
 fn is_other(one: Cipher, two: Cipher) -> bool
     ensures { result ≡ is_other one two }
 {
@@ -234,10 +225,10 @@ fn policy_of(names: &[u8]) -> Option<Policy>
     let mut policy = None;
     let mut rest = names;
     while let Some((name, after)) = split_once(rest, b':') {
-        policy = add_cipher(policy, cipher_named(name));
+        policy = add_cipher(policy, read_cipher(name));
         rest = after;
     }
-    add_cipher(policy, cipher_named(rest))
+    add_cipher(policy, read_cipher(rest))
 }
 
 /// `data-ciphers LIST`: of the names between colons `AES-256-GCM` and `AES-128-GCM` count, once
@@ -251,20 +242,38 @@ pub fn cipher_policy(item: &Item) -> Option<Policy>
     }
 }
 
-/// `replay-window N [T]`: N is 1 to 1,024 packet ids, and T 0 to 600 seconds, without it 15.
+/// The width of the window against replayed packets, in packet ids, and its seconds, where
+/// nothing is said of them.
+pub fn default_window() -> (u32, u32)
+    ensures { result ≡ default_window }
+{
+    (64, 15)
+}
+
+fn width_of(word: &[u8]) -> Option<u32>
+    ensures { result ≡ width_of word.now }
+{
+    match number_in(word, 1, 1_024) {
+        None => None,
+        Some(width) => Some(width as u32),
+    }
+}
+
+/// `replay-window N [T]`: N is 1 to 1,024 packet ids, and T 0 to 600 seconds, without it the
+/// default.
 pub fn replay_window(item: &Item) -> Option<(u32, u32)>
     ensures { result ≡ replay_window (arguments_of item.now) }
 {
     match item.one() {
         Some(width) => {
-            let width = number_in(width, 1, 1_024)?;
-            Some((width as u32, 15))
+            let width = width_of(width)?;
+            Some((width, default_window().1))
         }
         None => {
             let (width, seconds) = item.two()?;
-            let width = number_in(width, 1, 1_024)?;
+            let width = width_of(width)?;
             let seconds = number_in(seconds, 0, 600)?;
-            Some((width as u32, seconds as u32))
+            Some((width, seconds as u32))
         }
     }
 }

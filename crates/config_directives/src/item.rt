@@ -3,12 +3,12 @@
 ghost use Rattle.std.specs.Prelude.{◌≡◌, ◌<◌, length, slice_get, None, Some, MatchOption};
 ghost use Rattle.std.specs.Option.{option_copied};
 ghost use Rattle.config_directives.specs.Items.{arguments_of, name_of, first_named, is_given, items_of};
-ghost use Rattle.config_directives.specs.Arguments.{are_none, one_of, two_of, three_of};
+ghost use Rattle.vpn_base.specs.WordCount.{are_none, one_of, two_of, three_of};
 
 use vpn_base::{Bytes, Text, TextList};
 
 /// What a directive says: the words of its line, or the block that begins there.
-#[derive(Debug, Drop)]
+#[derive(Drop)]
 pub enum Item {
     /// The words of a line, of which the first one names the directive.
     Words(TextList),
@@ -23,7 +23,7 @@ pub enum Item {
 }
 
 /// A directive with the number of its line, or of its block's first line, counted from 1.
-#[derive(Debug, Drop)]
+#[derive(Drop)]
 pub struct Directive {
     /// The number of the line.
     pub line: u32,

@@ -7,9 +7,10 @@ ghost use Rattle.config_directives.specs.Table.{client_keywords, keyword_of, lin
 
 use crate::arguments::{
     cipher_policy, device_name, is_console, is_subnet, is_udp, keepalive_times, local_address,
-    one_number, push_text, remote_end, replay_window, route_network, server_network,
+    push_text, remote_end, replay_window, route_network, server_network,
 };
 use crate::item::Item;
+use crate::numbers::NumberDirective;
 use vpn_base::Role;
 
 /// A directive of the table.
@@ -276,7 +277,7 @@ impl Keyword {
             Keyword::Dev => device_name(item).is_some(),
             Keyword::Topology => is_subnet(item),
             Keyword::Proto => is_udp(item),
-            Keyword::Port => one_number(item, 1, 65_535).is_some(),
+            Keyword::Port => NumberDirective::Port.read(item).is_some(),
             Keyword::Local => local_address(item).is_some(),
             Keyword::Remote => remote_end(item).is_some(),
             Keyword::TlsCrypt => item.one().is_some(),
@@ -285,14 +286,14 @@ impl Keyword {
             Keyword::CcdExclusive => item.has_no_argument(),
             Keyword::ClientToClient => item.has_no_argument(),
             Keyword::DuplicateCn => item.has_no_argument(),
-            Keyword::MaxClients => one_number(item, 1, 4_096).is_some(),
+            Keyword::MaxClients => NumberDirective::MaxClients.read(item).is_some(),
             Keyword::Push => push_text(item).is_some(),
             Keyword::Route => route_network(item).is_some(),
             Keyword::DataCiphers => cipher_policy(item).is_some(),
-            Keyword::RenegSec => one_number(item, 0, 1_000_000).is_some(),
-            Keyword::TranWindow => one_number(item, 1, 1_000_000).is_some(),
-            Keyword::HandWindow => one_number(item, 1, 1_000_000).is_some(),
-            Keyword::TlsTimeout => one_number(item, 1, 60).is_some(),
+            Keyword::RenegSec => NumberDirective::RenegSec.read(item).is_some(),
+            Keyword::TranWindow => NumberDirective::TranWindow.read(item).is_some(),
+            Keyword::HandWindow => NumberDirective::HandWindow.read(item).is_some(),
+            Keyword::TlsTimeout => NumberDirective::TlsTimeout.read(item).is_some(),
             Keyword::ReplayWindow => replay_window(item).is_some(),
             Keyword::Management => is_console(item),
         }

@@ -8,15 +8,17 @@ mod judging;
 mod keyword;
 mod lines;
 mod names;
+mod numbers;
 
 pub use arguments::{
-    cipher_policy, keepalive_times, local_address, one_number, push_text, remote_end,
+    cipher_policy, default_window, keepalive_times, local_address, push_text, remote_end,
     replay_window, route_network, server_network,
 };
 pub use item::{Directive, Item, first_named, is_given};
 pub use keyword::{Keyword, keyword_of, table};
 pub use lines::{FileDirectives, read_directives};
 pub use names::is_for_engine;
+pub use numbers::{NumberDirective, NumberRange};
 
 #[cfg(test)]
 mod tests;

@@ -4,24 +4,20 @@ ghost use Rattle.std.specs.Prelude.{◌≡◌, ◌≤◌, ◌-◌, ◌||◌, Lis
 ghost use Rattle.std.specs.Option.{option_copied};
 ghost use Rattle.vpn_base.specs.Answers.{IfWhy};
 ghost use Rattle.vpn_base.specs.Lines.{Line, lines_of};
+ghost use Rattle.vpn_text.specs.ConfigLine.{is_over};
 ghost use Rattle.config_directives.specs.Blocks.{block_end};
-ghost use Rattle.config_directives.specs.Entries.{begun_by, block_behind, block_name, entries, has_control, inside_kind, is_over, item_on, line_entries, line_with, until_end};
-ghost use Rattle.config_directives.specs.Judging.{Adds, Stops, judged};
+ghost use Rattle.config_directives.specs.Entries.{begun_by, block_behind, block_name, entries, has_control, inside_kind, item_on, line_entries, line_with, until_end};
+ghost use Rattle.config_directives.specs.Judging.{judged};
+ghost use Rattle.config_directives.specs.internal.Steps.{Adds, Stops};
 
 use crate::item::{Directive, Item};
 use crate::judging::kind_of;
 use std::alloc::Global;
 use vpn_base::{Bytes, NoMemory, Or, Text, TextList, next_line};
-use vpn_text::{ConfigFault, ConfigKind, read_config_line};
-
-/// The greatest size of a file, in bytes.
-const LONGEST_FILE: usize = 65_536;
-
-/// The greatest length of a line without its end, in bytes.
-const LONGEST_LINE: usize = 1_024;
+use vpn_text::{ConfigFault, ConfigKind, is_control, is_long, is_over, read_config_line};
 
 /// The directives of a file, in their order.
-#[derive(Debug, Drop)]
+#[derive(Drop)]
 pub struct FileDirectives {
     /// The directives.
     pub directives: Vec<Directive>,
@@ -71,7 +67,7 @@ fn block_end(alloc: Global, name: &[u8]) -> Result<Text, NoMemory>
 fn ends_block(last: &[u8], line: &[u8], reached: usize) -> bool
     ensures { result ≡ is_over reached || bytes_eq line.now last.now }
 {
-    reached > LONGEST_FILE || line == last
+    is_over(reached) || line == last
 }
 
 // The lines in front of the first that is this one, each ended by a line feed. The text stands at the
@@ -132,8 +128,7 @@ fn begin(alloc: Global, words: TextList, size: usize, behind: &[u8]) -> Result<B
 fn has_control(line: &[u8]) -> bool
     ensures { result ≡ has_control line.now }
 {
-    line.iter()
-        .any(|byte| (*byte < 32 && *byte != b'\t') || *byte == 127)
+    line.iter().any(|byte| is_control(*byte))
 }
 
 fn line_fault(alloc: Global, line: u32, kind: ConfigKind) -> ConfigFault
@@ -173,7 +168,7 @@ impl Reader {
         ensures stops { IfErr result (λ e. IfWhy e (Stops self.old.directives.items
             (line_entries None (line_with number line.now (size - length behind.now)) (lines_of behind.now)))) }
     {
-        let over = size - behind.len() > LONGEST_FILE;
+        let over = is_over(size - behind.len());
         let words = match read_config_line(alloc, number, line, over) {
             Ok(words) => words,
             Err(e) => return Err(e),
@@ -201,7 +196,7 @@ impl Reader {
 fn judge_inside(line: &[u8], over: bool) -> Option<ConfigKind>
     ensures { result ≡ inside_kind line.now over }
 {
-    if line.len() > LONGEST_LINE || over {
+    if is_long(line) || over {
         Some(ConfigKind::Long)
     } else if has_control(line) {
         Some(ConfigKind::Control)
@@ -227,7 +222,7 @@ impl Reader {
         ensures stops { IfErr result (λ e. IfWhy e (λ fault. (lines : List Line) → Stops self.old.directives.items
             (line_entries self.old.block (line_with number line.now reached) lines) fault)) }
     {
-        if let Some(kind) = judge_inside(line, reached > LONGEST_FILE) {
+        if let Some(kind) = judge_inside(line, is_over(reached)) {
             return Err(Or::Why(line_fault(alloc, number, kind)));
         }
         self.leave_block(line);

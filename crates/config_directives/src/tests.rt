@@ -1,62 +1,14 @@
-//! The directives of a file with their lines and arguments, the table, and first faults.
+//! The directives of a file with their lines and arguments, and a row of the table.
 
 use super::*;
-use std::alloc::Global;
-use std::test::Fail;
 use vpn_base::{Cipher, Or, Policy, Role};
 use vpn_text::ConfigKind;
 
-const FILE: &[u8; 287] =
+const FILE: &[u8; 243] =
     b"# each kind of arguments\nserver 10.8.0.0 255.255.255.0\nlocal 192.0.2.9\n\
 remote 192.0.2.1 443 udp\nkeepalive 10 120\npush \"route 10.9.0.0\"\n\
-route 10.10.0.0 255.255.0.0\ndata-ciphers AES-128-GCM:AES-256-GCM\n\
-replay-window 128 30\nmax-clients 7\n\n<ca>\none\n two \n</ca>\nccd-exclusive\n\
-tls-cipher a b c";
-
-#[test]
-fn directives_of_a_file(rt: HostRuntime) {
-    let Ok(file) = read_directives(rt.alloc(), FILE) else {
-        assert!(rt; false);
-        return;
-    };
-    assert_eq!(rt; file.last, 17);
-    assert_eq!(rt; file.directives.len(), 12);
-    let mut next = 0;
-    for (line, name) in [
-        (2, b"server".as_slice()),
-        (3, b"local"),
-        (4, b"remote"),
-        (5, b"keepalive"),
-        (6, b"push"),
-        (7, b"route"),
-        (8, b"data-ciphers"),
-        (9, b"replay-window"),
-        (10, b"max-clients"),
-        (12, b"ca"),
-        (16, b"ccd-exclusive"),
-        (17, b"tls-cipher"),
-    ] {
-        match file.directives.get(next) {
-            None => assert!(rt; false),
-            Some(directive) => {
-                assert_eq!(rt; directive.line, line);
-                assert_eq!(rt; directive.item.name(), name);
-            }
-        }
-        next += 1;
-    }
-    assert!(rt; is_given(&file.directives, b"route"));
-    assert!(rt; !is_given(&file.directives, b"one"));
-    match first_named(&file.directives, b"ca") {
-        Some(
-            Item::Block {
-                bytes: Some(bytes),
-                ..
-            },
-        ) => assert_eq!(rt; bytes.as_slice(), b"one\n two \n".as_slice()),
-        _ => assert!(rt; false),
-    }
-}
+route 10.10.0.0\ndata-ciphers AES-128-GCM\n\
+replay-window 128\nmax-clients 7\n<ca>\none\n two \n</ca>\nccd-exclusive\n";
 
 // Whether the arguments of the file's directives are the values that stand there.
 fn are_read(directives: &[Directive]) -> Option<bool> {
@@ -68,117 +20,85 @@ fn are_read(directives: &[Directive]) -> Option<bool> {
     let route = route_network(first_named(directives, b"route")?)?;
     let policy = cipher_policy(first_named(directives, b"data-ciphers")?)?;
     let window = replay_window(first_named(directives, b"replay-window")?)?;
-    let clients = one_number(first_named(directives, b"max-clients")?, 1, 4_096)?;
+    let number = NumberDirective::MaxClients;
+    let clients = number.read(first_named(directives, number.name())?)?;
     Some(
-        server.net().0 == 0x0A08_0000
-            && server.len() == 24
+        server.len() == 24
             && local.0 == 0xC000_0209
             && remote.0 == 0xC000_0201
             && port == Some(443)
             && times == (10, 120)
             && pushed == b"route 10.9.0.0".as_slice()
-            && route.net().0 == 0x0A0A_0000
-            && route.len() == 16
+            && route.len() == 32
             && policy
                 == Policy::Choose {
                     first: Cipher::Aes128Gcm,
-                    second: Some(Cipher::Aes256Gcm),
+                    second: None,
                 }
-            && window == (128, 30)
+            && window == (128, default_window().1)
             && clients == 7,
     )
 }
 
 // Whether the words behind the names are found by their number.
 fn are_counted(directives: &[Directive]) -> Option<bool> {
-    let none = first_named(directives, b"ccd-exclusive")?;
-    let one = first_named(directives, b"max-clients")?;
-    let two = first_named(directives, b"keepalive")?;
-    let three = first_named(directives, b"tls-cipher")?;
-    let (ping, restart) = two.two()?;
-    let (a, b, c) = three.three()?;
+    let one = first_named(directives, b"max-clients")?.one()?;
+    let (ping, restart) = first_named(directives, b"keepalive")?.two()?;
+    let (_, _, proto) = first_named(directives, b"remote")?.three()?;
     Some(
-        none.has_no_argument()
-            && !one.has_no_argument()
-            && one.one()? == b"7".as_slice()
-            && two.one().is_none()
+        first_named(directives, b"ccd-exclusive")?.has_no_argument()
+            && one == b"7".as_slice()
             && ping == b"10".as_slice()
             && restart == b"120".as_slice()
-            && one.two().is_none()
-            && a == b"a".as_slice()
-            && b == b"b".as_slice()
-            && c == b"c".as_slice()
-            && two.three().is_none(),
+            && proto == b"udp".as_slice(),
     )
 }
 
 #[test]
-fn arguments_and_the_table(rt: HostRuntime) -> Result<(), Fail> {
-    match read_directives(rt.alloc(), FILE) {
-        Ok(file) => {
-            assert_eq!(rt; are_read(&file.directives), Some(true));
-            assert_eq!(rt; are_counted(&file.directives), Some(true));
-            match (
-                keyword_of(b"max-clients"),
-                first_named(&file.directives, b"push"),
-            ) {
-                (Some(keyword), Some(push)) => assert!(rt; !keyword.takes(push)),
-                _ => assert!(rt; false),
-            }
-        }
-        Err(_) => assert!(rt; false),
+fn directives_of_a_file(rt: HostRuntime) {
+    let Ok(file) = read_directives(rt.alloc(), FILE) else {
+        assert!(rt; false);
+        return;
+    };
+    assert_eq!(rt; file.last, 15);
+    assert_eq!(rt; file.directives.len(), 11);
+    assert!(rt; is_given(&file.directives, b"route"));
+    assert_eq!(rt; are_read(&file.directives), Some(true));
+    assert_eq!(rt; are_counted(&file.directives), Some(true));
+    match first_named(&file.directives, b"ca") {
+        Some(
+            Item::Block {
+                bytes: Some(bytes),
+                ..
+            },
+        ) => assert_eq!(rt; bytes.as_slice(), b"one\n two \n".as_slice()),
+        _ => assert!(rt; false),
     }
-    assert!(rt; is_for_engine(b"tls-cipher"));
-    assert!(rt; !is_for_engine(b"tls-crypt"));
-    assert_eq!(rt; keyword_of(b"Port"), None);
-    for (i, name, keyword, side, repeats) in [
-        (
-            0,
-            b"server".as_slice(),
-            Keyword::Server,
-            Some(Role::Server),
-            false,
-        ),
-        (5, b"port", Keyword::Port, None, false),
-        (7, b"remote", Keyword::Remote, Some(Role::Client), true),
-        (15, b"push", Keyword::Push, Some(Role::Server), true),
-        (16, b"route", Keyword::Route, None, true),
-        (23, b"management", Keyword::Management, None, false),
-    ] {
-        assert_eq!(rt; keyword_of(name), Some(keyword));
-        assert_eq!(rt; table().get(i).copied(), Some(keyword));
-        assert_eq!(rt; keyword.side(), side);
-        assert_eq!(rt; keyword.may_repeat(), repeats);
-    }
-    Ok(())
-}
-
-// Whether the text is refused with this fault.
-fn is_refused(alloc: Global, text: &[u8], line: u32, kind: ConfigKind, word: &[u8]) -> bool {
-    match read_directives(alloc, text) {
-        Ok(_) => false,
-        Err(Or::Memory) => false,
-        Err(Or::Why(fault)) => {
-            fault.line == line && fault.kind == kind && fault.word.as_slice() == word
+    match (
+        keyword_of(b"max-clients"),
+        first_named(&file.directives, b"max-clients"),
+    ) {
+        (Some(keyword), Some(item)) => {
+            assert_eq!(rt; item.name(), b"max-clients".as_slice());
+            assert!(rt; keyword.takes(item));
         }
+        _ => assert!(rt; false),
     }
 }
 
 #[test]
-fn first_faults(rt: HostRuntime) {
-    for (text, line, kind, word) in [
-        (
-            b"dev tun\ndev tun\nPort 1\n".as_slice(),
-            2,
-            ConfigKind::Repeated,
-            b"dev".as_slice(),
-        ),
-        (b"Port 1\nport 0\n", 1, ConfigKind::Unknown, b"Port"),
-        (b"\nport 0\nPort 1\n", 2, ConfigKind::Arguments, b"port"),
-        (b"comp-lzo\nport 'x\n", 1, ConfigKind::Refused, b"comp-lzo"),
-        (b"<ca>\nx\n</ca> \n", 1, ConfigKind::Block, b"ca"),
-        (b"<ca>\nx\n</ca>\nport 'x\n", 4, ConfigKind::Quote, b""),
-    ] {
-        assert!(rt; is_refused(rt.alloc(), text, line, kind, word), "{text:?}");
+fn rows_and_faults(rt: HostRuntime) {
+    assert!(rt; is_for_engine(b"tls-cipher"));
+    assert_eq!(rt; table().len(), 24);
+    assert_eq!(rt; Keyword::Push.side(), Some(Role::Server));
+    assert!(rt; Keyword::Push.may_repeat());
+    assert_eq!(rt; NumberDirective::Port.range().otherwise, 1_194);
+    match read_directives(rt.alloc(), b"\ndev tun\ndev tun\nPort 1\n") {
+        Err(Or::Why(fault)) => {
+            assert_eq!(rt; fault.line, 3);
+            assert_eq!(rt; fault.kind, ConfigKind::Repeated);
+            assert_eq!(rt; fault.word.as_slice(), b"dev".as_slice());
+        }
+        _ => assert!(rt; false),
     }
 }

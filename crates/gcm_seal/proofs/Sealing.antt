@@ -7,7 +7,7 @@ use Rattle.aes_core.specs.Field.{xor_bytes}
 use Rattle.ghash_core.specs.Field.{product}
 use Rattle.ghash_core.specs.Ghash.{element, ghash, ghash_from, ghash_step, padded_blocks}
 use Rattle.gcm_seal.specs.Gcm.{cipher_text, gcm, gctr, hash_key, hash_of, inc32, length_block, pre_counter_block, tag_of}
-use Rattle.gcm_seal.specs.Laws.{gctr_twice}
+use Rattle.gcm_seal.specs.internal.Laws.{gctr_twice}
 use Rattle.gcm_seal.specs.Sealed.{Sealed}
 use Rattle.gcm_seal.proofs.Counters.{ctr_is_gctr, numbered, numbered_one, numbered_two}
 

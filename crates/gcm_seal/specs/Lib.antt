@@ -1,4 +1,4 @@
 pub mod AnyGcm
 pub mod Gcm
-pub mod Laws
 pub mod Sealed
+pub mod internal

@@ -1,24 +1,11 @@
 //! Authenticated encryption with additional data, whatever the cipher.
 
-ghost use Rattle.std.specs.Prelude.{◌≡◌, ◌≤◌, ℕ, List, length, codes, IfOk, IfErr, Some};
+ghost use Rattle.std.specs.Prelude.{◌≡◌, ◌≤◌, ℕ, List, length, IfOk, IfErr};
 ghost use Rattle.gcm_seal.specs.Sealed.{Sealed};
-
-use std::error::Error;
-use std::fmt;
 
 /// The bytes are not what any plain text of that length seals to.
 #[derive(Clone, Copy, Debug, PartialEq, Eq)]
 pub struct NotSealed;
-
-impl fmt::Display for NotSealed {
-    ghost output = { λ _. Some (codes "not sealed under this key") };
-
-    fn fmt<W: fmt::Write>(&self, f: &mut fmt::Formatter<W>) -> fmt::Result {
-        f.write_str("not sealed under this key")
-    }
-}
-
-impl Error for NotSealed {}
 
 /// Authenticated encryption with additional data, in place.
 pub trait Aead {

@@ -3,7 +3,7 @@
 ghost use Rattle.std.specs.Prelude.{◌≡◌, ◌≤◌, ◌+◌, ◌*◌, ◌<◌, ◌++◌, ℕ, List, length, IfOk, IfErr};
 ghost use Rattle.std.specs.Int.{w32, w64, to_be_bytes};
 ghost use Rattle.gcm_seal.specs.Gcm.{gcm, hash_key, tag_of};
-ghost use Rattle.gcm_seal.specs.Laws.{gcm_lengths, same_plain};
+ghost use Rattle.gcm_seal.specs.internal.Laws.{gcm_lengths, same_plain};
 
 use crate::aead::{Aead, NotSealed};
 use aes_core::AesKey;

@@ -38,6 +38,11 @@ const CIPHER_TEXT_LONG: [u8; 60] = [
     0xc5, 0xf6, 0x1e, 0x63, 0x93, 0xba, 0x7a, 0x0a, 0xbc, 0xc9, 0xf6, 0x62,
 ];
 
+const COUNTING: [u8; 17] = [
+    0x00, 0x01, 0x02, 0x03, 0x04, 0x05, 0x06, 0x07, 0x08, 0x09, 0x0a, 0x0b, 0x0c, 0x0d, 0x0e, 0x0f,
+    0x10,
+];
+
 fn short() -> Gcm128 {
     Gcm128::new(&KEY)
 }
@@ -47,20 +52,6 @@ fn long() -> Gcm256 {
     key[..16].copy_from_slice(&KEY);
     key[16..].copy_from_slice(&KEY);
     Gcm256::new(&key)
-}
-
-// Seals a plain text of at most 1,400 bytes, compares the tag, and opens it again.
-fn seals_and_opens<A: Aead>(rt: &impl Abort, cipher: &A, aad: &[u8], plain: &[u8], tag: u128) {
-    assert!(rt; aad.len() <= 1400);
-    assert!(rt; plain.len() <= 1400);
-    let mut buffer = [0u8; 1400];
-    let bytes = &mut buffer[..plain.len()];
-    bytes.copy_from_slice(plain);
-    let sealed = cipher.seal(NONCE, aad, bytes);
-    assert_eq!(rt; u128::from_be_bytes(sealed), tag, "the tag");
-    assert_eq!(rt; cipher.unseal(NONCE, aad, sealed, bytes), Ok(()));
-    let same = plain == &buffer[..plain.len()];
-    assert!(rt; same, "opened to something else");
 }
 
 #[test]
@@ -86,111 +77,28 @@ fn published(rt: HostRuntime) {
     );
 }
 
-#[test]
-fn lengths(rt: HostRuntime) {
-    let mut counting = [0u8; 1400];
-    for i in 0..1400usize {
-        counting[i] = (i & 0xff) as u8;
-    }
-    for (aad, plain, short_tag, long_tag) in [
-        (
-            20usize,
-            0usize,
-            0x3464_34fd_51d5_cd0c_5887_ec63_e39b_907au128,
-            0x9f6b_e076_03c0_b0bd_1272_8540_63e9_c9bau128,
-        ),
-        (
-            20,
-            1,
-            0x655f_6330_a409_8a15_6013_0cf6_4ee4_7380,
-            0xec0c_2c98_ea89_f368_0630_2c93_6db8_002a,
-        ),
-        (
-            20,
-            15,
-            0x3a9c_8e11_e190_e43f_f37e_4241_d210_7558,
-            0x1bd7_f45f_53ad_1682_c1c8_c458_8361_0814,
-        ),
-        (
-            20,
-            16,
-            0x01d4_0ba2_02ed_09bf_422e_6f97_5464_abf8,
-            0x9f9a_4e3a_4912_0494_d7f7_c626_a0a5_1dad,
-        ),
-        (
-            20,
-            17,
-            0x8bc7_150e_bb7d_accb_cc65_0ab1_af28_ec7c,
-            0x4c41_2a55_0506_fb5e_0d98_56b9_1c2a_8bc5,
-        ),
-        (
-            20,
-            1400,
-            0x4863_3cab_08f4_4d93_a40a_a399_67da_db8e,
-            0xb633_32e3_ade2_5ecd_888f_d4aa_ddc2_f4b0,
-        ),
-        (
-            1,
-            0,
-            0x37eb_1819_5336_b2f1_a87b_81fe_7376_c528,
-            0x1795_49a8_0fb5_b7a5_16c3_da55_ef69_73e8,
-        ),
-        (
-            15,
-            0,
-            0xd14e_5aa6_2b8c_830a_1d6f_d6b0_7afe_b99e,
-            0x1a70_6627_c290_bad7_58e7_da08_46d9_eef9,
-        ),
-        (
-            16,
-            0,
-            0x54df_474f_4e71_a9ef_8a09_bf30_da7b_1a92,
-            0xd17d_884a_0dc9_a437_aeb2_8d77_fc6b_fbca,
-        ),
-        (
-            17,
-            0,
-            0x0012_c692_a5c6_7cd4_da51_5d96_3033_78d9,
-            0x805f_2158_c7b9_e4d3_a381_2a71_4cf6_49d6,
-        ),
-    ] {
-        assert!(rt; aad <= 20);
-        assert!(rt; plain <= 1400);
-        let aad = &ADDITIONAL_DATA[..aad];
-        let plain = &counting[..plain];
-        seals_and_opens(&rt, &short(), aad, plain, short_tag);
-        seals_and_opens(&rt, &long(), aad, plain, long_tag);
-        seals_and_opens(&rt, &AnyGcm::Short(short()), aad, plain, short_tag);
-        seals_and_opens(&rt, &AnyGcm::Long(long()), aad, plain, long_tag);
-    }
+// Seals so many bytes that count, under 20 bytes of additional data, and opens them again.
+fn seals_and_opens<A: Aead>(rt: &impl Abort, cipher: &A, bytes: &mut [u8; 17], tag: u128) {
+    let sealed = cipher.seal(NONCE, &ADDITIONAL_DATA, bytes);
+    assert_eq!(rt; u128::from_be_bytes(sealed), tag);
+    assert_eq!(rt;
+        cipher.unseal(NONCE, &ADDITIONAL_DATA, sealed, bytes),
+        Ok(())
+    );
+    assert_eq!(rt; *bytes, COUNTING);
 }
 
 #[test]
-fn forged(rt: HostRuntime) {
-    const TAG: u128 = 0xab6e_47d4_2cec_13bd_f53a_67b2_1257_bddf;
-    let cipher = Gcm128::new(&[0; 16]);
-    let text = 0x0388_dace_60b6_a392_f328_c2b9_71b2_fe78u128.to_be_bytes();
-    let mut bytes = text;
-    for bit in 0..128u32 {
-        let forged = (TAG ^ (1u128 << bit)).to_be_bytes();
-        assert_eq!(rt;
-            cipher.unseal([0; 12], &[], forged, &mut bytes),
-            Err(NotSealed),
-            "bit {bit}"
-        );
-        assert_eq!(rt; bytes, text, "bit {bit}");
-    }
+fn either_length(rt: HostRuntime) {
+    let mut bytes = COUNTING;
+    let short_tag = 0x8bc7_150e_bb7d_accb_cc65_0ab1_af28_ec7c;
+    let long_tag = 0x4c41_2a55_0506_fb5e_0d98_56b9_1c2a_8bc5;
+    seals_and_opens(&rt, &short(), &mut bytes, short_tag);
+    seals_and_opens(&rt, &long(), &mut bytes, long_tag);
+    seals_and_opens(&rt, &AnyGcm::Short(short()), &mut bytes, short_tag);
+    seals_and_opens(&rt, &AnyGcm::Long(long()), &mut bytes, long_tag);
     assert_eq!(rt;
-        cipher.unseal([0; 12], &[0], TAG.to_be_bytes(), &mut bytes),
+        short().unseal(NONCE, &[], [0; 16], &mut bytes),
         Err(NotSealed)
     );
-    assert_eq!(rt;
-        cipher.unseal(NONCE, &[], TAG.to_be_bytes(), &mut bytes),
-        Err(NotSealed)
-    );
-    assert_eq!(rt;
-        cipher.unseal([0; 12], &[], TAG.to_be_bytes(), &mut bytes),
-        Ok(())
-    );
-    assert_eq!(rt; bytes, [0; 16]);
 }

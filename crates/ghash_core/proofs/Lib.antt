@@ -2,3 +2,4 @@ mod Blocks
 mod Facts
 mod Linear
 mod Table
+mod Pieces

@@ -3,7 +3,7 @@ use Rattle.std.proofs.Common.{◌≡◌, ℕ, ◌+◌, ◌*◌, ◌/◌, ◌%◌
 use Rattle.std.proofs.lemmas.Nat.{and_mask, mod_below, pow_pos, xor_comm}
 use lib.Bits.{xor_shifted}
 use Rattle.ghash_core.specs.Field.{product}
-use Rattle.ghash_core.specs.Multiples.{AreMultiples}
+use Rattle.ghash_core.specs.internal.Multiples.{AreMultiples}
 use Rattle.ghash_core.proofs.Linear.{product-xor, product_digits}
 
 -- the entry for a digit at a place

@@ -1,4 +1,4 @@
 pub mod Field
 pub mod Ghash
 pub mod Hasher
-pub mod Multiples
+pub mod internal

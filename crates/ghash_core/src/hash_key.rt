@@ -1,9 +1,9 @@
 //! A hash key with a table of its multiples: a product is then 32 sums of table entries.
 
-ghost use Rattle.std.specs.Prelude.{◌≡◌, ℕ, ◌+◌, ◌*◌, ◌/◌, ◌%◌, ◌^◌, ◌<◌, ◌≤◌, take, drop, length};
+ghost use Rattle.std.specs.Prelude.{◌≡◌, ℕ, ◌+◌, ◌*◌, ◌/◌, ◌%◌, ◌^◌, ◌<◌, ◌≤◌, ◌++◌, List, take, drop, length};
 ghost use Rattle.ghash_core.specs.Field.{product};
 ghost use Rattle.ghash_core.specs.Ghash.{element, filled_up, ghash_from, padded_blocks};
-ghost use Rattle.ghash_core.specs.Multiples.{AreMultiples, ArePowers};
+ghost use Rattle.ghash_core.specs.internal.Multiples.{AreMultiples, ArePowers};
 
 use crate::field::times_x;
 use std::marker::Model;
@@ -121,9 +121,12 @@ impl HashKey {
     }
 
     /// GHASH, gone on with from `sum` over the blocks of `bytes`, of which a last short one is
-    /// padded with zeros (SP 800-38D, section 6.4). A `sum` of 0 begins it.
+    /// padded with zeros (SP 800-38D, section 6.4). A `sum` of 0 begins it. Behind whole blocks it
+    /// goes on as over one list of bytes.
     pub fn absorb(&self, sum: u128, bytes: &[u8]) -> u128
-        ensures { result ≡ ghash_from self.now sum (padded_blocks bytes.now) }
+        ensures padded { result ≡ ghash_from self.now sum (padded_blocks bytes.now) }
+        ensures behind { (first : ℕ) (before : List ℕ) → length before % 16 ≡ 0 → sum ≡ ghash_from self.now first (padded_blocks before)
+            → result ≡ ghash_from self.now first (padded_blocks (before ++ bytes.now)) }
     {
         let mut sum = sum;
         let whole = bytes.len() / BLOCK_LEN;

@@ -19,50 +19,21 @@ const CIPHER_TEXT: [u8; 60] = [
 
 #[test]
 fn products(rt: HostRuntime) {
-    for (x, y, product) in [
-        (
-            0x0388_dace_60b6_a392_f328_c2b9_71b2_fe78u128,
-            0x66e9_4bd4_ef8a_2c3b_884c_fa59_ca34_2b2eu128,
-            0x5e2e_c746_9170_6288_2c85_b068_5353_deb7u128,
-        ),
-        (
-            0x5bc8_fbbc_bde5_c099_4164_d839_9f76_7c45,
-            0xd76d_4330_f144_6bea_b0c1_1fde_cb91_ce37,
-            0xc3a0_c4ce_e409_0723_30e1_22a6_acdb_c76d,
-        ),
-        (
-            u128::MAX,
-            u128::MAX,
-            0xf402_aaaa_aaaa_aaaa_aaaa_aaaa_aaaa_aaaa,
-        ),
-        (1, 2, 0x0e10_0000_0000_0000_0000_0000_0000_0007),
-        (KEY, 1 << 127, KEY),
-        (0, KEY, 0),
-    ] {
-        assert_eq!(rt; mul(x, y), product, "{x:x} times {y:x}");
-        assert_eq!(rt;
-            HashKey::new(y).mul(x),
-            product,
-            "{x:x} times the key {y:x}"
-        );
-    }
+    let x = 0x5bc8_fbbc_bde5_c099_4164_d839_9f76_7c45;
+    let y = 0xd76d_4330_f144_6bea_b0c1_1fde_cb91_ce37;
+    let product = 0xc3a0_c4ce_e409_0723_30e1_22a6_acdb_c76d;
+    assert_eq!(rt; mul(x, y), product);
+    assert_eq!(rt; HashKey::new(y).mul(x), product);
+    assert_eq!(rt; mul(1, 2), 0x0e10_0000_0000_0000_0000_0000_0000_0007);
 }
 
 #[test]
 fn hashes(rt: HostRuntime) {
+    assert_eq!(rt;
+        ghash_of(KEY, &CIPHER_TEXT),
+        0xad64_0d4c_1e66_7ed1_4c16_7715_6174_a6cc
+    );
     let key = HashKey::new(KEY);
-    for (len, hash) in [
-        (0usize, 0u128),
-        (1, 0xf73d_44d7_587d_54e3_f179_e900_6669_c951),
-        (15, 0xe6f9_aaa4_7f2d_b4ad_120d_2627_fbc0_701c),
-        (16, 0x59ed_3f2b_b1a0_aaa0_7c9f_56c6_a504_647b),
-        (17, 0x9815_073e_8c46_8602_efe8_cb69_ea9a_0687),
-        (60, 0xad64_0d4c_1e66_7ed1_4c16_7715_6174_a6cc),
-    ] {
-        let text = &CIPHER_TEXT[..len];
-        assert_eq!(rt; ghash_of(KEY, text), hash, "{len} bytes");
-        assert_eq!(rt; key.absorb(0, text), hash, "{len} bytes after nothing");
-    }
     let sum = key.absorb(0, &ADDITIONAL_DATA);
     assert_eq!(rt; sum, 0xcd47_221c_cef0_554e_e4bb_044c_8815_0352);
     let sum = key.absorb(sum, &CIPHER_TEXT);

@@ -2,11 +2,11 @@
 #![tactic(auto)]
 
 ghost use Rattle.std.specs.Prelude.{◌≡◌, ◌+◌, ◌*◌, ◌≤◌, length};
-ghost use Rattle.route_table.specs.Owner.{is_owned_by, owner};
+ghost use Rattle.route_table.specs.Owner.{owner};
 ghost use Rattle.inner_verdict.specs.Verdict.{verdict, is_group, routed, sourced};
 
 use ip_packets::Inner;
-use route_table::RouteTable;
+use route_table::{RouteTable, is_owner};
 use std::sync::ledger::Ledger;
 use vpn_base::{Cid, Ip4, Prefix, Steps};
 
@@ -49,15 +49,6 @@ fn is_for_many(subnet: Option<Prefix>, a: Ip4) -> bool
     }
 }
 
-fn is_owned(sender: Cid, found: Option<Cid>) -> bool
-    ensures { result ≡ is_owned_by sender found }
-{
-    match found {
-        None => false,
-        Some(found) => found.0 == sender.0,
-    }
-}
-
 fn by_destination(between: bool, sender: Option<Cid>, target: Option<Cid>) -> Verdict
     ensures { result ≡ routed between sender target }
 {
@@ -88,8 +79,8 @@ pub fn verdict_on<L: Ledger>(
     packet: &[u8],
     steps: &mut Steps<L>,
 ) -> Verdict
-    ensures exact { result ≡ verdict table.now subnet between sender packet.now }
-    ensures cost { steps.new ≤ steps.old + 2 * length table.now }
+    ensures exact { result ≡ verdict table.now.rows subnet between sender packet.now }
+    ensures cost { steps.new ≤ steps.old + 2 * length table.now.rows }
 {
     let Ok(inner) = Inner::read(packet) else {
         return Verdict::NotIp;
@@ -105,7 +96,7 @@ pub fn verdict_on<L: Ledger>(
         None => by_destination(between, None, table.owner(destination, steps)),
         Some(client) => {
             let found = table.owner(inner.source(), steps);
-            if !is_owned(client, found) {
+            if !is_owner(client, found) {
                 Verdict::BadSource { owner: found }
             } else if !between {
                 Verdict::ToDevice

@@ -1,4 +1,4 @@
--- The plain text of a control packet (OpenVPN network protocol, plaintext control channel messages).
+-- The plain text of a control packet (OpenVPN 2.6, src/openvpn/reliable.c, reliable_ack_parse and reliable_ack_write).
 use Rattle.std.specs.Prelude.{◌≡◌, ◌⊎◌, ℕ, zero, suc, ◌+◌, ◌*◌, ◌^◌, ◌<◌, ◌≤◌, ◌==◌, nat_lt, List, [], ◌∷◌, ◌++◌, length, take, drop, Option, Some, None, Result, Ok, Err, if◌then◌else◌}
 use Rattle.std.specs.List.{flat_map, AllByRecursion}
 use Rattle.std.specs.Int.{w32, to_be_bytes, from_be_bytes}

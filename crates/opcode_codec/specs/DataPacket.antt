@@ -1,4 +1,4 @@
--- Data packets (OpenVPN network protocol, structure of data channel messages).
+-- Data packets (OpenVPN 2.6, src/openvpn/ssl.c, tls_prepend_opcode_v2, and crypto.c, openvpn_encrypt_aead).
 use Rattle.std.specs.Prelude.{◌≡◌, ℕ, ◌+◌, ◌/◌, ◌%◌, ◌^◌, ◌<◌, List, [], ◌∷◌, ◌++◌, length, take, drop}
 use Rattle.std.specs.Int.{w32, to_be_bytes, from_be_bytes}
 use Rattle.opcode_codec.specs.declared.packets.DataView.{DataView}

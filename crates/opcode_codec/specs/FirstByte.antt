@@ -1,4 +1,4 @@
--- The first byte of a packet (OpenVPN network protocol, message types).
+-- The first byte of a packet (OpenVPN 2.6, src/openvpn/ssl_pkt.h).
 use Rattle.std.specs.Prelude.{ℕ, ◌+◌, ◌*◌, ◌/◌, ◌==◌, Option, Some, None, if◌then◌else◌}
 use Rattle.opcode_codec.specs.declared.opcodes.Opcode.{Opcode}
 use Rattle.opcode_codec.specs.declared.opcodes.Opcode.TheVariants.{SoftReset, Control, Ack, ClientReset, ServerReset, DataV2}

@@ -1,4 +1,4 @@
--- Which bytes are which packet (OpenVPN network protocol, message structure).
+-- Which bytes are which packet (OpenVPN 2.6, src/openvpn/ssl_pkt.h and tls_crypt.h).
 use Rattle.std.specs.Prelude.{◌≡◌, ◌≢◌, ℕ, ◌%◌, ◌<◌, ◌≤◌, nat_lt, List, [], ◌∷◌, ◌++◌, length, take, Option, Some, None, Result, Ok, Err, if◌then◌else◌}
 use Rattle.std.specs.Int.{w32, to_be_bytes}
 use Rattle.vpn_base.specs.declared.names.Sid.{Sid}

@@ -10,8 +10,8 @@ use crate::fields::{array_of, number_at};
 use crate::opcodes::Opcode;
 use vpn_base::{Acks, Malformed, Sid};
 
-/// The plain text of a control packet, seen in its bytes (OpenVPN network protocol, plaintext
-/// control channel messages).
+/// The plain text of a control packet, seen in its bytes (OpenVPN 2.6, src/openvpn/reliable.c,
+/// reliable_ack_parse).
 #[derive(Clone, Copy, Debug, PartialEq, Eq)]
 pub struct ControlView<'a> {
     /// The packet ids that are acknowledged. The ids that do not count are 0.
@@ -105,8 +105,8 @@ fn read_text(plain: &[u8], op: Opcode) -> Result<ControlView<'_>, Malformed>
     read_behind_ids(op, Acks { count, ids }, &rest[ids_end..])
 }
 
-/// The plain text that the bytes are, of a packet of this opcode (OpenVPN network protocol, plaintext
-/// control channel messages). Bytes after the last field of ACK_V1 are ignored; of every other opcode
+/// The plain text that the bytes are, of a packet of this opcode (OpenVPN 2.6,
+/// src/openvpn/reliable.c, reliable_ack_parse). Bytes after the last field of ACK_V1 are ignored; of every other opcode
 /// the text has a packet id, and the payload goes to the end. Acks comes exactly where more than 8 ids
 /// are acknowledged, NoRemote exactly where the ids are there and the receiver's session id behind them
 /// is cut off, and Short exactly where another field is cut off. No other error comes.
@@ -192,7 +192,7 @@ fn put_fields(out: &mut [u8], end: usize, op: Opcode, id: u32, payload: &[u8]) -
 }
 
 /// Writes the plain text of a control packet of this opcode to the front of `out`, and answers how many
-/// bytes it has (OpenVPN network protocol, plaintext control channel messages). The receiver's session
+/// bytes it has (OpenVPN 2.6, src/openvpn/reliable.c, reliable_ack_write). The receiver's session
 /// id is written where packet ids are acknowledged; the packet id and the payload are written of every
 /// opcode but ACK_V1. The bytes behind it stay.
 pub fn write_control(

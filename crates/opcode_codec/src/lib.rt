@@ -1,4 +1,4 @@
-//! The packets of the OpenVPN network protocol: which bytes spell them, read and written.
+//! The packets of OpenVPN: which bytes spell them, read and written.
 #![tactic(auto)]
 
 mod control;

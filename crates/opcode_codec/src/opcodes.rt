@@ -3,7 +3,7 @@
 ghost use Rattle.std.specs.Prelude.{◌≡◌, ◌<◌};
 ghost use Rattle.opcode_codec.specs.FirstByte.{code, opcode_of, first_byte};
 
-/// What kind of packet it is (OpenVPN network protocol, message types).
+/// What kind of packet it is (OpenVPN 2.6, src/openvpn/ssl_pkt.h).
 #[derive(Clone, Copy, Debug, PartialEq, Eq)]
 pub enum Opcode {
     /// SOFT_RESET_V1: new keys within a session.

@@ -9,7 +9,7 @@ use crate::fields::{array_of, number_at};
 use crate::opcodes::{Opcode, first_byte, opcode_of};
 use vpn_base::{Malformed, Sid};
 
-/// A data packet, seen in its datagram (OpenVPN network protocol, structure of data channel messages).
+/// A data packet, seen in its datagram (OpenVPN 2.6, src/openvpn/crypto.c, openvpn_encrypt_aead).
 #[derive(Clone, Copy, Debug, PartialEq, Eq)]
 pub struct DataView<'a> {
     /// The key id, below 8.
@@ -89,7 +89,7 @@ fn read_any(d: &[u8]) -> Result<Packet<'_>, Malformed>
     }
 }
 
-/// The packet that the datagram is (OpenVPN network protocol, message types and message structure).
+/// The packet that the datagram is (OpenVPN 2.6, src/openvpn/ssl_pkt.h and ssl_pkt.c).
 /// Empty comes exactly for no bytes, Opcode exactly for an opcode that is not served, and Short exactly
 /// below 49 bytes for a control packet and below 24 for a data packet. No other error comes.
 pub fn read_packet(d: &[u8]) -> Result<Packet<'_>, Malformed>
@@ -110,7 +110,7 @@ pub fn read_packet(d: &[u8]) -> Result<Packet<'_>, Malformed>
 }
 
 /// The first 8 bytes of a data packet, which are its additional data: first byte, peer id and packet
-/// id (OpenVPN network protocol, structure of data channel messages).
+/// id (OpenVPN 2.6, src/openvpn/crypto.c, openvpn_encrypt_aead).
 #[tactic(auto, unfolding(crate::specs::DataPacket::data_head))]
 pub fn write_data_head(kid: u8, peer: u32, id: u32) -> [u8; 8]
     requires kid { kid < 8 }

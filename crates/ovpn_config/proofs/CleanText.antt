@@ -1,15 +1,15 @@
 -- Texts without control bytes.
-use Rattle.std.proofs.Common.{◌≡◌, ℕ, ◌/◌, ◌%◌, ◌^◌, ◌<◌, ◌≤◌, ◌==◌, ◌&&◌, ◌||◌, Bool, true, false, not, cond, List, [], ◌∷◌, ◌++◌, refl, ap, sym, ◌∙◌, arith}
-use Rattle.std.specs.Prelude.{Some, None, Ok, decimal, nat_le}
+use Rattle.std.proofs.Common.{◌≡◌, ℕ, ◌/◌, ◌%◌, ◌^◌, ◌<◌, ◌==◌, ◌&&◌, ◌||◌, Bool, true, false, not, cond, List, [], ◌∷◌, ◌++◌, refl, ap, sym, ◌∙◌, arith}
+use Rattle.std.specs.Prelude.{Some, None, decimal, nat_le}
 use Rattle.std.specs.List.{list_all, list_any}
 use Rattle.std.proofs.lemmas.List.Folds.{list_all-append}
 use Rattle.std.proofs.lemmas.Bool.Decides.{nat_tests}
 use Rattle.vpn_base.specs.declared.address.Ip4.{Ip4}
 use Rattle.vpn_base.specs.Number.{number_of, is_decimal, is_digit, value_behind}
-use Rattle.vpn_base.specs.Address.{ip4_text, ip4_of}
-use Rattle.vpn_text.specs.Words.{is_control, line_words}
-use Rattle.vpn_text.specs.Mask.{mask_of, mask_text, mask_number}
-use Rattle.ovpn_config.specs.Spelling.{words_text}
+use Rattle.vpn_base.specs.Address.{ip4_text}
+use Rattle.vpn_text.specs.Words.{is_control}
+use Rattle.vpn_text.specs.Mask.{mask_text, mask_number}
+use Rattle.ovpn_config.specs.internal.Laws.{Laws}
 
 -- no control byte
 abbrev pub is_clean : List ℕ → Bool
@@ -17,15 +17,6 @@ is_clean bytes = list_all (λ c. not (is_control c)) bytes
 
 abbrev pub are_clean : List (List ℕ) → Bool
 are_clean words = list_all (λ word. is_clean word) words
-
--- what is proved below: written numbers, addresses, masks and words are read again
-pub record Laws : Type 0 where
-  pub decimals : (most n : ℕ) → n ≤ most → n < 2 ^ 64 → number_of most (decimal n) ≡ Some n
-  pub addresses : (a : Ip4) → a.0 < 2 ^ 32 → ip4_of (ip4_text a) ≡ Some a
-  pub masks : (len : ℕ) → len ≤ 32 → mask_of (mask_text len) ≡ Some len
-  pub clean_lines : (line : List ℕ) → (words : List (List ℕ)) → line_words line ≡ Ok words → list_all (λ c. not (is_control c)) line ≡ true
-  pub clean_words : (line : List ℕ) → (words : List (List ℕ)) → line_words line ≡ Ok words → list_all (λ word. list_all (λ c. not (is_control c)) word) words ≡ true
-  pub words : (words : List (List ℕ)) → list_all (λ word. list_all (λ c. not (is_control c)) word) words ≡ true → line_words (words_text words) ≡ Ok words
 
 pub and_true : (a b : Bool) → (a && b) ≡ true → (a ≡ true) × (b ≡ true)
 and_true true true e = (refl, refl)

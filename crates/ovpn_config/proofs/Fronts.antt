@@ -12,12 +12,12 @@ use Rattle.vpn_base.specs.Lines.{Line, content, lines_of, lines_of_parts, size}
 use Rattle.vpn_text.specs.declared.config.ConfigFault.{ConfigFault}
 use Rattle.vpn_text.specs.declared.config.ConfigKind.{ConfigKind}
 use Rattle.vpn_text.specs.declared.config.ConfigKind.TheVariants.{Long, Control}
-use Rattle.vpn_text.specs.ConfigLine.{config_words, words_in}
+use Rattle.vpn_text.specs.ConfigLine.{config_words, words_in, is_over}
 use Rattle.vpn_text.specs.Words.{line_words}
 use Rattle.config_directives.specs.declared.item.Item.TheVariants.{Block}
 use Rattle.config_directives.specs.declared.item.Directive.{Directive}
 use Rattle.config_directives.specs.Blocks.{block_end}
-use Rattle.config_directives.specs.Entries.{Entry, Faulty, FileLine, Given, begun_by, block_behind, block_begun, entries, has_control, inside_entries, is_over, item_begun, line_behind, line_entries, outside_entries, until_end, words_on}
+use Rattle.config_directives.specs.Entries.{Entry, Faulty, FileLine, Given, begun_by, block_behind, block_begun, entries, has_control, inside_entries, item_begun, line_behind, line_entries, outside_entries, until_end, words_on}
 use Rattle.config_directives.specs.Judging.{judged, kind_of, unless_wrong}
 use Rattle.ovpn_config.specs.Reading.{settings, settings_from}
 use Rattle.ovpn_config.proofs.FirstLines.{line_first}

@@ -14,3 +14,4 @@ pub mod RoundGood
 pub mod RoundText
 pub mod RoundTrip
 pub mod RoundBounds
+pub mod OwnNumbers

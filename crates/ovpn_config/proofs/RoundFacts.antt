@@ -21,7 +21,8 @@ use Rattle.config_directives.specs.declared.keyword.Keyword.{Keyword}
 use Rattle.config_directives.specs.declared.keyword.Keyword.TheVariants as keywords
 use Rattle.config_directives.specs.Items.{arguments_of, first_named, given, is_named, items_of, name_of}
 use Rattle.config_directives.specs.Blocks.{block_end}
-use Rattle.config_directives.specs.Arguments.{both, cipher_policy, ciphers_in, if_passes, is_other, is_server_length, keepalive_behind, keepalive_times, local_address, number_in, one_number, one_of, policy_of, port_of, push_text, remote_end, replay_window, route_network, server_network}
+use Rattle.vpn_base.specs.WordCount.{one_of}
+use Rattle.config_directives.specs.Arguments.{both, cipher_policy, ciphers_in, if_passes, is_other, is_server_length, keepalive_behind, keepalive_times, local_address, number_in, one_number, policy_of, port_of, push_text, remote_end, replay_window, route_network, server_network}
 use Rattle.config_directives.specs.Names.{block_names, engine_names, is_among, is_idle, is_refused, outside_names, tunnel_names}
 use Rattle.config_directives.specs.Table.{client_keywords, keyword_of, link_keywords, row_at, session_keywords, table}
 use Rattle.config_directives.specs.Judging.{may_repeat}

@@ -26,7 +26,8 @@ use Rattle.ovpn_config.specs.declared.settings.KeyPlace.{KeyPlace}
 use Rattle.ovpn_config.specs.declared.settings.KeyPlace.TheVariants.{Named, Inline}
 use Rattle.ovpn_config.specs.Printed.{cipher_names}
 use Rattle.ovpn_config.specs.Reading.{is_for_other}
-use Rattle.ovpn_config.proofs.CleanText.{Laws, are_clean, both_true, clean_decimal, clean_ip4, clean_mask, is_clean}
+use Rattle.ovpn_config.specs.internal.Laws.{Laws}
+use Rattle.ovpn_config.proofs.CleanText.{are_clean, both_true, clean_decimal, clean_ip4, clean_mask, is_clean}
 use Rattle.ovpn_config.proofs.RoundNumbers.{IsRead, network_again, number_again}
 use Rattle.ovpn_config.proofs.RoundTable.{AreGood, IsGood, items_at, items_on, key_item, keyword_at, network_item, numbers_item, switch_item, there}
 use Rattle.ovpn_config.proofs.RoundFacts.{AreTimes, Each, Holds, IsClean, IsDevice, IsKey, IsPort, IsPush, IsServerNetwork, IsSmall, IsWindow, Whole}

@@ -17,7 +17,8 @@ use Rattle.config_directives.specs.Entries.{Entry, Given, begun_by, block_begun,
 use Rattle.config_directives.specs.Judging.{is_known, is_open, is_taken, judged, kind_of, may_repeat, unless_wrong}
 use Rattle.ovpn_config.specs.Spelling.{block_text, item_text, words_text}
 use Rattle.ovpn_config.specs.Canonical.{ended, lines_with}
-use Rattle.ovpn_config.proofs.CleanText.{Laws, and_true, are_clean, is_clean}
+use Rattle.ovpn_config.specs.internal.Laws.{Laws}
+use Rattle.ovpn_config.proofs.CleanText.{and_true, are_clean, is_clean}
 use Rattle.ovpn_config.proofs.FirstLines.{until_found, until_passed}
 use Rattle.ovpn_config.proofs.RoundLines.{Fits, content-line, first_fits, inside_line, lines_of-line, outside_line, written_words}
 

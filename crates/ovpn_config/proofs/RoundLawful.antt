@@ -13,26 +13,27 @@ use Rattle.config_directives.specs.declared.item.Directive.{Directive}
 use Rattle.config_directives.specs.declared.keyword.Keyword.{Keyword}
 use Rattle.config_directives.specs.declared.keyword.Keyword.TheVariants as keywords
 use Rattle.config_directives.specs.Items.{arguments_of, first_named, given, is_given, is_named, items_of}
-use Rattle.config_directives.specs.Arguments.{keepalive_times, one_number, one_of, push_text, remote_end, server_network}
+use Rattle.vpn_base.specs.WordCount.{one_of}
+use Rattle.config_directives.specs.Arguments.{keepalive_times, one_number, push_text, remote_end, server_network}
 use Rattle.config_directives.specs.Names.{block_names}
 use Rattle.config_directives.specs.Table.{client_keywords, link_keywords, row_at, session_keywords, table}
-use Rattle.config_directives.specs.Entries.{entries}
-use Rattle.config_directives.specs.Judging.{judged}
 use Rattle.ovpn_config.specs.declared.settings.Settings.{Settings}
 use Rattle.ovpn_config.specs.declared.settings.KeyPlace.TheVariants.{Named}
 use Rattle.ovpn_config.specs.Spelling.{item_text, words_text}
 use Rattle.ovpn_config.specs.Values.{end_with, place_of, port_given, push_in, settings_of, timers_given}
-use Rattle.ovpn_config.specs.Reading.{is_astray, is_for_other, missing, settings, settings_from, settings_on, side_of_file, unless_astray, unless_missing}
-use Rattle.ovpn_config.proofs.CleanText.{Laws, and_true, both_true}
+use Rattle.ovpn_config.specs.Reading.{directives_in, is_astray, is_for_other, missing, settings, settings_from, settings_on, side_of_file, unless_astray, unless_missing}
+use Rattle.ovpn_config.specs.internal.Laws.{Laws}
+use Rattle.ovpn_config.proofs.CleanText.{and_true, both_true}
 use Rattle.ovpn_config.proofs.RoundNumbers.{IsRead}
 use Rattle.ovpn_config.proofs.RoundSound.{AllSound, sound_all}
 use Rattle.ovpn_config.proofs.RoundTable.{AreGood, are_engine}
 use Rattle.ovpn_config.proofs.RoundFacts.{AreTimes, Each, Holds, IsClean, IsDevice, IsEnd, IsKey, IsPolicy, IsPort, IsPush, IsServerNetwork, IsSmall, IsWindow, Whole, astray_none, device_fine, engine_good, engine_items, engine_named, engine_texts, folder_clean, found, given_holds, given_within, keepalive_fine, key_fine, local_small, policy_fine, pushes_fine, remote_fine, routes_fine, server_fine, taken_at, window_fine}
 
 -- the directives of the file
-pub record FromFile (s : Settings) : Type 0 where
+pub record FromFile (read : Result (List Directive) ConfigFault) (s : Settings) : Type 0 where
   pub role : Role
   pub all : List Directive
+  pub is : read ≡ Ok all
   pub sound : AllSound (items_of all)
   pub side : side_of_file (items_of all) ≡ Some role
   pub right : find (is_astray role) all ≡ None
@@ -41,29 +42,28 @@ pub record FromFile (s : Settings) : Type 0 where
 
 from_parts : (last : ℕ) (role : Role) (all : List Directive) (s : Settings) (astray : Option Directive) (lack : Option Keyword)
     → AllSound (items_of all) → side_of_file (items_of all) ≡ Some role → find (is_astray role) all ≡ astray → missing role (items_of all) ≡ lack
-    → unless_astray astray (unless_missing last lack (settings_of role (items_of all))) ≡ Ok s → FromFile s
+    → unless_astray astray (unless_missing last lack (settings_of role (items_of all))) ≡ Ok s → FromFile (Ok all) s
 from_parts last role all s None None sound side right whole is =
-    record { role = role; all = all; sound = sound; side = side; right = right; whole = whole; made = cc }
+    record { role = role; all = all; is = refl; sound = sound; side = side; right = right; whole = whole; made = cc }
 from_parts last role all s None (Some k) sound side right whole is = cc
 from_parts last role all s (Some d) lack sound side right whole is = cc
 
 from_side : (last : ℕ) (side : Option Role) (all : List Directive) (s : Settings) → AllSound (items_of all) → side_of_file (items_of all) ≡ side
-    → settings_on last side all ≡ Ok s → FromFile s
+    → settings_on last side all ≡ Ok s → FromFile (Ok all) s
 unfolding settings_on
 from_side last None all s sound side is = cc
 from_side last (Some role) all s sound side is =
     from_parts last role all s (find (is_astray role) all) (missing role (items_of all)) sound side refl refl is
 
 from_judged : (last : ℕ) (r : Result (List Directive) ConfigFault) (s : Settings) → ((all : List Directive) → r ≡ Ok all → AllSound (items_of all))
-    → settings_from last r ≡ Ok s → FromFile s
+    → settings_from last r ≡ Ok s → FromFile r s
 from_judged last (Err fault) s sound is = cc
 from_judged last (Ok all) s sound is = from_side last (side_of_file (items_of all)) all s (sound all refl) refl is
 
-pub from_file : Laws → (text : List ℕ) (s : Settings) → settings text ≡ Ok s → FromFile s
+pub from_file : Laws → (text : List ℕ) (s : Settings) → settings text ≡ Ok s → FromFile (directives_in text) s
 unfolding settings
 from_file laws text s is =
-    from_judged (length (lines_of text)) (judged [] (entries None 0 0 (lines_of text))) s
-    (λ all ok. sound_all laws (lines_of text) None 0 0 [] all tt ok) is
+    from_judged (length (lines_of text)) (directives_in text) s (λ all ok. sound_all laws (lines_of text) None 0 0 [] all tt ok) is
 
 -- nothing that is needed is missing
 none_when : {A : Type 0} (b : Bool) (p : A → Bool) (x : A) (xs : List A) → p x ≡ b → cond b (Some x) (find p xs) ≡ None

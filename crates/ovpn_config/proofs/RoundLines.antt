@@ -9,7 +9,8 @@ use Rattle.vpn_text.specs.declared.config.ConfigKind.TheVariants.{Long, Control}
 use Rattle.vpn_text.specs.ConfigLine.{config_words, words_in}
 use Rattle.vpn_text.specs.Words.{is_control, line_words}
 use Rattle.config_directives.specs.Entries.{FileLine, block_behind, block_begun, entries, has_control, inside_entries, line_entries, outside_entries}
-use Rattle.ovpn_config.proofs.CleanText.{Laws, and_true, is_clean, no_control}
+use Rattle.ovpn_config.specs.internal.Laws.{Laws}
+use Rattle.ovpn_config.proofs.CleanText.{and_true, is_clean, no_control}
 use Rattle.ovpn_config.proofs.FirstLines.{entries-first, line_first, seen}
 
 -- a line without control bytes has no line feed, and no carriage return at its end

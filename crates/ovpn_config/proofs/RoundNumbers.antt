@@ -4,12 +4,12 @@ use Rattle.std.specs.Prelude.{Option, Some, None, decimal, nat_le}
 use Rattle.std.specs.List.{slice_split}
 use Rattle.std.proofs.lemmas.Bool.Decides.{nat_tests}
 use Rattle.vpn_base.specs.declared.address.Ip4.{Ip4}
-use Rattle.vpn_base.specs.Network.{Network}
+use Rattle.vpn_base.specs.Network.{Network, network_from}
 use Rattle.vpn_base.specs.Number.{number_of, is_decimal, value_behind}
 use Rattle.vpn_base.specs.Address.{ip4_of, ip4_text, of_parts, address_of}
-use Rattle.vpn_text.specs.Mask.{length_of, length_upto, mask_number, mask_of, mask_text, masked_network, network_from}
+use Rattle.vpn_text.specs.Mask.{length_of, length_upto, mask_number, mask_of, mask_text, masked_network}
 use Rattle.config_directives.specs.Arguments.{if_passes, number_in}
-use Rattle.ovpn_config.proofs.CleanText.{Laws}
+use Rattle.ovpn_config.specs.internal.Laws.{Laws}
 
 -- a number in its range is read again
 passes_le : (low n : ℕ) → low ≤ n → if_passes (nat_le low) (Some n) ≡ Some n

@@ -7,7 +7,7 @@ use Rattle.vpn_text.specs.declared.words.LineFault.{LineFault}
 use Rattle.vpn_text.specs.declared.config.ConfigFault.{ConfigFault}
 use Rattle.vpn_text.specs.declared.config.ConfigKind.{ConfigKind}
 use Rattle.vpn_text.specs.declared.config.ConfigKind.TheVariants as kinds
-use Rattle.vpn_text.specs.ConfigLine.{config_words, words_in}
+use Rattle.vpn_text.specs.ConfigLine.{config_words, words_in, is_over}
 use Rattle.vpn_text.specs.Words.{line_words}
 use Rattle.config_directives.specs.declared.item.Item.{Item}
 use Rattle.config_directives.specs.declared.item.Item.TheVariants.{Block}
@@ -15,10 +15,11 @@ use Rattle.config_directives.specs.declared.item.Directive.{Directive}
 use Rattle.config_directives.specs.Items.{items_of, name_of}
 use Rattle.config_directives.specs.Blocks.{block_end}
 use Rattle.config_directives.specs.Names.{is_refused}
-use Rattle.config_directives.specs.Entries.{Entry, begun_by, block_begun, block_behind, entries, has_control, inside_entries, inside_kind, is_over, item_begun, line_behind, outside_entries, until_end, words_on}
+use Rattle.config_directives.specs.Entries.{Entry, begun_by, block_begun, block_behind, entries, has_control, inside_entries, inside_kind, item_begun, line_behind, outside_entries, until_end, words_on}
 use Rattle.config_directives.specs.Judging.{is_known, is_open, is_repeated, is_taken, judged, kind_of, unless_wrong}
 use Rattle.ovpn_config.specs.Canonical.{lines_with}
-use Rattle.ovpn_config.proofs.CleanText.{Laws, both_true, clean-any, is_clean}
+use Rattle.ovpn_config.specs.internal.Laws.{Laws}
+use Rattle.ovpn_config.proofs.CleanText.{both_true, clean-any, is_clean}
 use Rattle.ovpn_config.proofs.RoundItems.{CanRead, ended-behind, may_stand}
 
 pub record IsSound (item : Item) : Type 0 where

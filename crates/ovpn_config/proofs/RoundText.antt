@@ -30,7 +30,8 @@ use Rattle.ovpn_config.specs.Spelling.{item_text, words_text}
 use Rattle.ovpn_config.specs.Printed.{if_there, key_text, printed, remote_text, switched, with_network, with_numbers, with_word}
 use Rattle.ovpn_config.specs.Reading.{is_astray, is_for_other, missing, side_of_file}
 use Rattle.ovpn_config.specs.Canonical.{KeepsLimits, canonical, ended, lines_with, written}
-use Rattle.ovpn_config.proofs.CleanText.{Laws, all-append, and_true, both_true}
+use Rattle.ovpn_config.specs.internal.Laws.{Laws}
+use Rattle.ovpn_config.proofs.CleanText.{all-append, and_true, both_true}
 use Rattle.ovpn_config.proofs.RoundLines.{Fits}
 use Rattle.ovpn_config.proofs.RoundItems.{AreFine, items_text, read_items}
 use Rattle.ovpn_config.proofs.RoundTable.{are_engine, are_named, are_unseen, at_named, engine_none, found_at, items_at, items_on, key_item, keyword_at, network_item, numbers_item, on_named, on_single, switch_item, table_apart, table_fine, there}

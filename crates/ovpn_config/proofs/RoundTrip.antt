@@ -18,7 +18,8 @@ use Rattle.config_directives.specs.declared.item.Directive.{Directive}
 use Rattle.config_directives.specs.declared.keyword.Keyword.{Keyword}
 use Rattle.config_directives.specs.declared.keyword.Keyword.TheVariants as keywords
 use Rattle.config_directives.specs.Items.{arguments_of, first_named, items_of, name_of}
-use Rattle.config_directives.specs.Arguments.{cipher_policy, keepalive_times, local_address, one_number, one_of, push_text, remote_end, replay_window, route_network, server_network}
+use Rattle.vpn_base.specs.WordCount.{one_of}
+use Rattle.config_directives.specs.Arguments.{cipher_policy, keepalive_times, local_address, one_number, push_text, remote_end, replay_window, route_network, server_network}
 use Rattle.config_directives.specs.Names.{engine_names, is_among}
 use Rattle.config_directives.specs.Table.{row_at, table}
 use Rattle.ovpn_config.specs.declared.settings.Settings.{Settings}
@@ -28,7 +29,8 @@ use Rattle.ovpn_config.specs.Spelling.{item_text, words_text}
 use Rattle.ovpn_config.specs.Values.{default_policy, end_with, engine_in, place_of, port_given, push_in, route_in, settings_of, timers_given}
 use Rattle.ovpn_config.specs.Reading.{is_astray, missing, settings, settings_from, settings_on, side_of_file, unless_astray, unless_missing}
 use Rattle.ovpn_config.specs.Canonical.{KeepsLimits, canonical}
-use Rattle.ovpn_config.proofs.CleanText.{Laws, and_true}
+use Rattle.ovpn_config.specs.internal.Laws.{Laws}
+use Rattle.ovpn_config.proofs.CleanText.{and_true}
 use Rattle.ovpn_config.proofs.RoundNumbers.{IsRead}
 use Rattle.ovpn_config.proofs.RoundTable.{are_engine, are_named, engine_gives, engine_none, filter_map-append, found_at, gathered, items_on, key_item, network_item, not_engine, numbers_item, on_named, rows_at, switch_item, there}
 use Rattle.ovpn_config.proofs.RoundFacts.{AreTimes, Each, IsPush, IsServerNetwork, IsSmall, Whole}

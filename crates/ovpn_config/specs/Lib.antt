@@ -3,4 +3,6 @@ pub mod Values
 pub mod Printed
 pub mod Reading
 pub mod Canonical
+pub mod Numbers
 pub mod Bounds
+pub mod internal

@@ -69,7 +69,12 @@ abbrev pub settings_from : ℕ → Result (List Directive) ConfigFault → Resul
 settings_from last (Err fault) = Err fault
 settings_from last (Ok directives) = settings_on last (side_of_file (items_of directives)) directives
 
+-- the directives of a configuration file, or the fault of the first line with one of a kind other than Side
+-- and Missing
+abbrev pub directives_in : List ℕ → Result (List Directive) ConfigFault
+directives_in text = judged [] (entries None 0 0 (lines_of text))
+
 -- the settings of a configuration file, or its fault: the first line with a fault other than Side
 -- and Missing, else the first line on the wrong side, else the first directive that is missing
 unfoldable pub settings : List ℕ → Result Settings ConfigFault
-settings text = settings_from (length (lines_of text)) (judged [] (entries None 0 0 (lines_of text)))
+settings text = settings_from (length (lines_of text)) (directives_in text)

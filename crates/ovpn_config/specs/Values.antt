@@ -12,7 +12,12 @@ use Rattle.config_directives.specs.declared.item.Item.{Item}
 use Rattle.config_directives.specs.declared.item.Item.TheVariants.{Words, Block}
 use Rattle.config_directives.specs.Items.{arguments_of, is_named, name_of, first_named, given, is_given}
 use Rattle.config_directives.specs.Names.{engine_names, is_among}
-use Rattle.config_directives.specs.Arguments.{cipher_policy, keepalive_times, local_address, one_number, one_of, push_text, remote_end, replay_window, route_network, server_network}
+use Rattle.vpn_base.specs.WordCount.{one_of}
+use Rattle.config_directives.specs.declared.numbers.NumberDirective.{NumberDirective}
+use Rattle.config_directives.specs.declared.numbers.NumberDirective.TheVariants as numbers
+use Rattle.config_directives.specs.Numbers.{range_of}
+use Rattle.config_directives.specs.Table.{number_row}
+use Rattle.config_directives.specs.Arguments.{cipher_policy, default_window, keepalive_times, local_address, number_behind, push_text, remote_end, replay_window, route_network, server_network}
 use Rattle.ovpn_config.specs.declared.settings.Settings.{Settings}
 use Rattle.ovpn_config.specs.declared.settings.KeyPlace.{KeyPlace}
 use Rattle.ovpn_config.specs.declared.settings.KeyPlace.TheVariants.{Named, Inline}
@@ -22,13 +27,14 @@ use Rattle.ovpn_config.specs.Spelling.{item_text, words_text}
 abbrev pub word_given : List ℕ → List Item → List ℕ
 word_given name items = unwrap_or (option_and_then one_of (given name items)) []
 
--- the number of the directive of this name, from low to high; this one where there is none
-abbrev pub number_given : List ℕ → ℕ → ℕ → ℕ → List Item → ℕ
-number_given name low high otherwise items = unwrap_or (option_and_then (one_number low high) (given name items)) otherwise
+-- the number of the first such directive, or the one that counts where there is none
+abbrev pub number_given : NumberDirective → List Item → ℕ
+number_given number items =
+    unwrap_or (option_and_then (number_behind number) (given (number_row number).name items)) (range_of number).otherwise
 
 -- `port`
 abbrev pub port_given : List Item → ℕ
-port_given items = number_given (codes "port") 1 65535 1194 items
+port_given items = number_given numbers.Port items
 
 -- the server's address, whose port is that of `port` where none stands beside it
 abbrev pub end_with : ℕ → Ip4 × Option ℕ → Addr
@@ -65,15 +71,15 @@ key_given items = unwrap_or (option_map place_of (first_named (codes "tls-crypt"
 
 -- `reneg-sec`, `tran-window`, `hand-window`, `tls-timeout` and `replay-window`
 abbrev pub window_given : List Item → ℕ × ℕ
-window_given items = unwrap_or (option_and_then replay_window (given (codes "replay-window") items)) (64, 15)
+window_given items = unwrap_or (option_and_then replay_window (given (codes "replay-window") items)) default_window
 
 -- the timers of a file
 unfoldable pub timers_given : List Item → Timers
 timers_given items = record {
-  reneg = number_given (codes "reneg-sec") 0 1000000 3600 items;
-  tran = number_given (codes "tran-window") 1 1000000 3600 items;
-  hand = number_given (codes "hand-window") 1 1000000 60 items;
-  timeout = number_given (codes "tls-timeout") 1 60 2 items;
+  reneg = number_given numbers.RenegSec items;
+  tran = number_given numbers.TranWindow items;
+  hand = number_given numbers.HandWindow items;
+  timeout = number_given numbers.TlsTimeout items;
   win = (window_given items).0;
   win_secs = (window_given items).1;
 }
@@ -92,7 +98,7 @@ settings_of role items = record {
   exclusive = is_given (codes "ccd-exclusive") items;
   between = is_given (codes "client-to-client") items;
   duplicate = is_given (codes "duplicate-cn") items;
-  max_clients = number_given (codes "max-clients") 1 4096 1024 items;
+  max_clients = number_given numbers.MaxClients items;
   pushes = filter_map push_in items;
   routes = filter_map route_in items;
   ciphers = unwrap_or (option_and_then cipher_policy (given (codes "data-ciphers") items)) default_policy;

@@ -1,14 +1,16 @@
 //! Reading a configuration file.
 
-ghost use Rattle.std.specs.Prelude.{◌≡◌, IfOk, find, option_map};
+ghost use Rattle.std.specs.Prelude.{◌≡◌, List, Ok, IfOk, find, option_map};
 ghost use Rattle.std.specs.Option.{option_copied};
 ghost use Rattle.vpn_base.specs.Answers.{Answers, IfWhy};
+ghost use Rattle.config_directives.specs.declared.item.Directive.{Directive};
 ghost use Rattle.config_directives.specs.Items.{items_of};
 ghost use Rattle.config_directives.specs.Table.{row_at};
 ghost use Rattle.ovpn_config.specs.Bounds.{IsBounded};
-ghost use Rattle.ovpn_config.specs.Reading.{are_two, is_astray, is_for_other, missing, settings, settings_on, side_of_file};
+ghost use Rattle.ovpn_config.specs.Numbers.{SetsNumbers};
+ghost use Rattle.ovpn_config.specs.Reading.{are_two, directives_in, is_astray, is_for_other, missing, settings, settings_on, side_of_file};
 
-use crate::laws::settings_are_bounded;
+use crate::laws::{settings_are_bounded, settings_have_given_numbers};
 use crate::settings::Settings;
 use crate::values::settings_of;
 use config_directives::{Directive, Keyword, is_given, keyword_of, read_directives};
@@ -161,9 +163,15 @@ fn read_settings(alloc: Global, text: &[u8]) -> Result<Settings, Or<ConfigFault>
 pub fn read_config(alloc: Global, text: &[u8]) -> Result<Settings, Or<ConfigFault>>
     ensures exact { Answers result (settings text.now) }
 
-    // Numbers are in the ranges of their directives, and pushed texts may be pushed.
+    // Numbers are in the ranges of their directives, pushed texts may be pushed, and there are
+    // ciphers to choose from.
     ensures bounded { IfOk result IsBounded }
+
+    // A number that is given is the one that is set.
+    ensures numbers { IfOk result (λ s. (directives : List Directive) → directives_in text.now ≡ Ok directives
+        → SetsNumbers (items_of directives) s) }
 {
     settings_are_bounded();
+    settings_have_given_numbers();
     read_settings(alloc, text)
 }

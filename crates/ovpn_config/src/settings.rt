@@ -8,7 +8,7 @@ use vpn_base::{
 };
 
 /// Where the static key for tls-crypt is.
-#[derive(Debug, Drop)]
+#[derive(Drop)]
 pub enum KeyPlace {
     /// In the file of this name.
     Named(Text),
@@ -17,7 +17,7 @@ pub enum KeyPlace {
 }
 
 /// The settings of a server or of a client.
-#[derive(Debug, Drop)]
+#[derive(Drop)]
 pub struct Settings {
     /// Which end of the tunnel this is.
     pub role: Role,

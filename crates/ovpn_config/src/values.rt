@@ -3,15 +3,18 @@
 ghost use Rattle.std.specs.Prelude.{◌≡◌, ◌≤◌, ◌++◌, codes, IfOk, OnOk, filter_map, option_and_then, option_map, option_to_list, unwrap_or};
 ghost use Rattle.std.specs.Option.{option_copied};
 ghost use Rattle.config_directives.specs.Items.{given, is_given, items_of};
-ghost use Rattle.config_directives.specs.Arguments.{cipher_policy, keepalive_times, local_address, one_of, server_network};
+ghost use Rattle.vpn_base.specs.WordCount.{one_of};
+ghost use Rattle.config_directives.specs.Arguments.{cipher_policy, keepalive_times, local_address, server_network};
+ghost use Rattle.config_directives.specs.Numbers.{range_of};
 ghost use Rattle.ovpn_config.specs.Spelling.{words_text};
 ghost use Rattle.ovpn_config.specs.Values.{default_policy, end_with, engine_in, key_given, number_given, place_of, port_given, push_in, remote_given, route_in, settings_of, timers_given, window_given, word_given};
 
 use crate::settings::{KeyPlace, Settings};
 use crate::spelling::{arguments_text, item_text};
 use config_directives::{
-    Directive, Item, cipher_policy, first_named, is_for_engine, is_given, keepalive_times,
-    local_address, one_number, push_text, remote_end, replay_window, route_network, server_network,
+    Directive, Item, NumberDirective, cipher_policy, default_window, first_named, is_for_engine,
+    is_given, keepalive_times, local_address, push_text, remote_end, replay_window, route_network,
+    server_network,
 };
 use std::alloc::Global;
 use vpn_base::{
@@ -48,25 +51,25 @@ fn word_given(alloc: Global, directives: &[Directive], name: &[u8]) -> Result<Te
     }
 }
 
-// The number of the first directive of a name, or another.
-fn number_given(directives: &[Directive], name: &[u8], low: u64, high: u64, otherwise: u64) -> u64
-    requires { otherwise ≤ high }
-    ensures same { result ≡ number_given name.now low high otherwise (items_of directives.now) }
-    ensures within { result ≤ high }
+// The number of the first such directive, or the one that counts where there is none.
+fn number_given(directives: &[Directive], number: NumberDirective) -> u32
+    ensures same { result ≡ number_given number (items_of directives.now) }
+    ensures within { result ≤ (range_of number).high }
 {
-    match first_named(directives, name) {
-        None => otherwise,
-        Some(item) => match one_number(item, low, high) {
-            None => otherwise,
-            Some(n) => n,
-        },
+    let given = match first_named(directives, number.name()) {
+        None => None,
+        Some(item) => number.read(item),
+    };
+    match given {
+        None => number.range().otherwise,
+        Some(n) => n,
     }
 }
 
 fn port_given(directives: &[Directive]) -> u16
     ensures { result ≡ port_given (items_of directives.now) }
 {
-    number_given(directives, b"port", 1, 65_535, 1_194) as u16
+    number_given(directives, NumberDirective::Port) as u16
 }
 
 fn local_given(directives: &[Directive]) -> Option<Ip4>
@@ -130,9 +133,9 @@ fn window_given(directives: &[Directive]) -> (u32, u32)
     ensures { result ≡ window_given (items_of directives.now) }
 {
     match first_named(directives, b"replay-window") {
-        None => (64, 15),
+        None => default_window(),
         Some(item) => match replay_window(item) {
-            None => (64, 15),
+            None => default_window(),
             Some(window) => window,
         },
     }
@@ -144,10 +147,10 @@ fn timers_given(directives: &[Directive]) -> Timers
 {
     let (win, win_secs) = window_given(directives);
     Timers {
-        reneg: number_given(directives, b"reneg-sec", 0, 1_000_000, 3_600) as u32,
-        tran: number_given(directives, b"tran-window", 1, 1_000_000, 3_600) as u32,
-        hand: number_given(directives, b"hand-window", 1, 1_000_000, 60) as u32,
-        timeout: number_given(directives, b"tls-timeout", 1, 60, 2) as u32,
+        reneg: number_given(directives, NumberDirective::RenegSec),
+        tran: number_given(directives, NumberDirective::TranWindow),
+        hand: number_given(directives, NumberDirective::HandWindow),
+        timeout: number_given(directives, NumberDirective::TlsTimeout),
         win,
         win_secs,
     }
@@ -299,7 +302,7 @@ pub fn settings_of(
         exclusive: is_given(directives, b"ccd-exclusive"),
         between: is_given(directives, b"client-to-client"),
         duplicate: is_given(directives, b"duplicate-cn"),
-        max_clients: number_given(directives, b"max-clients", 1, 4_096, 1_024) as u32,
+        max_clients: number_given(directives, NumberDirective::MaxClients),
         pushes,
         routes,
         ciphers: policy_given(directives),

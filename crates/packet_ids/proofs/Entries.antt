@@ -1,6 +1,6 @@
 -- Lists of accepted ids, by their entries.
-use Rattle.std.proofs.Common.{◌≡◌, ◌≤◌, max, Bool, true, false, cond, List, [], ◌∷◌, ◌++◌, refl, sym, ap, ◌∙◌, arith, inl, inr}
-use Rattle.std.specs.Prelude.{◌⊎◌, ◌||◌, filter}
+use Rattle.std.proofs.Common.{◌≡◌, ◌≤◌, max, Bool, true, false, List, [], ◌∷◌, ◌++◌, refl, sym, ap, ◌∙◌, arith, inl, inr}
+use Rattle.std.specs.Prelude.{◌⊎◌, ◌||◌}
 use Rattle.std.specs.List.{list_any}
 use Rattle.packet_ids.specs.Freshness.{Accepted, greatest_id}
 use Rattle.packet_ids.specs.Window.{HasEntry}
@@ -11,15 +11,15 @@ same_test true b there back = sym (there refl)
 same_test false true there back = back refl
 same_test false false there back = refl
 
-or_true : (a b : Bool) (P : Type 0) → (a || b) ≡ true → (a ≡ true → P) → (b ≡ true → P) → P
+pub or_true : (a b : Bool) (P : Type 0) → (a || b) ≡ true → (a ≡ true → P) → (b ≡ true → P) → P
 or_true true b P h left right = left refl
 or_true false b P h left right = right h
 
-or_right : (a b : Bool) → b ≡ true → (a || b) ≡ true
+pub or_right : (a b : Bool) → b ≡ true → (a || b) ≡ true
 or_right true b h = refl
 or_right false b h = h
 
-or_left : (a b : Bool) → a ≡ true → (a || b) ≡ true
+pub or_left : (a b : Bool) → a ≡ true → (a || b) ≡ true
 or_left true b h = refl
 or_left false b h = cc
 
@@ -63,24 +63,3 @@ before_push [] y e (inl same) = inr same
 before_push [] y e (inr there) = absurd there
 before_push (x ∷ es) y e (inl same) = inl (inl same)
 before_push (x ∷ es) y e (inr there) = elim (before_push es y e there) [ inl k ↦ inl (inr k) | inr k ↦ inr k ]
-
-filter_has_when : (p : Accepted → Bool) (b : Bool) (x : Accepted) (es : List Accepted) (e : Accepted) → p x ≡ b →
-    (HasEntry (filter p es) e → HasEntry es e × (p e ≡ true)) → HasEntry (cond b (x ∷ filter p es) (filter p es)) e → HasEntry (x ∷ es) e × (p e ≡ true)
-filter_has_when p true x es e is rest (inl same) = (inl same, ap p (sym same) ∙ is)
-filter_has_when p true x es e is rest (inr there) = let r = rest there in (inr r.0, r.1)
-filter_has_when p false x es e is rest there = let r = rest there in (inr r.0, r.1)
-
-pub filter_has : (p : Accepted → Bool) (es : List Accepted) (e : Accepted) → HasEntry (filter p es) e → HasEntry es e × (p e ≡ true)
-filter_has p [] e there = absurd there
-filter_has p (x ∷ es) e there = filter_has_when p (p x) x es e refl (filter_has p es e) there
-
-has_filter_when : (p : Accepted → Bool) (b : Bool) (x : Accepted) (es : List Accepted) (e : Accepted) → p x ≡ b → p e ≡ true →
-    (HasEntry es e → HasEntry (filter p es) e) → HasEntry (x ∷ es) e → HasEntry (cond b (x ∷ filter p es) (filter p es)) e
-has_filter_when p true x es e is passes rest (inl same) = inl same
-has_filter_when p true x es e is passes rest (inr there) = inr (rest there)
-has_filter_when p false x es e is passes rest (inl same) = let k : p x ≡ true = ap p same ∙ passes in absurd cc
-has_filter_when p false x es e is passes rest (inr there) = rest there
-
-pub has_filter : (p : Accepted → Bool) (es : List Accepted) (e : Accepted) → p e ≡ true → HasEntry es e → HasEntry (filter p es) e
-has_filter p [] e passes there = absurd there
-has_filter p (x ∷ es) e passes there = has_filter_when p (p x) x es e refl passes (has_filter p es e passes) there

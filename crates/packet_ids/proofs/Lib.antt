@@ -1,5 +1,6 @@
 pub mod Entries
-pub mod Rooms
+pub mod Distinct
+pub mod Ring
 pub mod Standing
 pub mod LongStanding
 pub mod RunLaws

@@ -1,14 +1,14 @@
 -- What a window of pairs keeps decides as everything that was accepted does.
-use Rattle.std.proofs.Common.{◌≡◌, ◌≢◌, ℕ, ◌<◌, ◌≤◌, max, Bool, true, false, cond, eqb, ltb, List, [], ◌∷◌, ◌++◌, refl, sym, ap, subst, ◌∙◌, arith}
+use Rattle.std.proofs.Common.{◌≡◌, ◌≢◌, ℕ, ◌-◌, ◌<◌, ◌≤◌, max, Bool, true, false, cond, eqb, ltb, leb, List, [], ◌∷◌, ◌++◌, refl, sym, ap, subst, ◌∙◌, arith}
 use Rattle.vpn_base.specs.declared.names.Moment.{Moment}
 use Rattle.vpn_base.specs.declared.names.Freshness.{Freshness}
 use Rattle.vpn_base.specs.declared.names.Freshness.TheVariants.{Fresh, Zero, Old}
 use Rattle.packet_ids.specs.declared.long_windows.LongWindow.{LongWindow}
-use Rattle.packet_ids.specs.Freshness.{Accepted, History, begun, recorded, judged, freshness}
-use Rattle.packet_ids.specs.Window.{Kept, Stands, answer}
+use Rattle.packet_ids.specs.Freshness.{Accepted, begun, recorded, judged, freshness}
+use Rattle.packet_ids.specs.Window.{Stands, answer}
 use Rattle.packet_ids.specs.LongFreshness.{LongAccepted, LongHistory, long_begun, long_recorded, latest, is_none_of, of_time, at_time, long_freshness}
 use Rattle.packet_ids.specs.LongWindows.{LongStands, long_answer}
-use Rattle.packet_ids.proofs.Standing.{answer_is, fresh_at_first}
+use Rattle.packet_ids.proofs.Standing.{answer_is, some_of}
 
 pub latest-push : (es : List LongAccepted) (e : LongAccepted) → latest (es ++ e ∷ []) ≡ max (latest es) e.time
 latest-push [] e = omega arith
@@ -45,6 +45,13 @@ none_when true later a same = refl
 none_when false true a same = refl
 none_when false false a same = same refl
 
+-- with nothing accepted, every id but 0 is fresh
+fresh_at_first : (width seconds id : ℕ) (now : Moment) → 0 < width → id ≢ 0 → judged width seconds 0 [] id now ≡ Fresh
+fresh_at_first width seconds id now some not_zero =
+    let zero : eqb id 0 ≡ false = grind arith in
+    let old : leb width (0 - id) ≡ false = grind arith in
+    rw (zero, old) refl
+
 at_first : (width seconds time id : ℕ) (now : Moment) → 0 < width →
     cond (eqb id 0) Zero (cond (ltb time 0) Old (cond (ltb 0 time) Fresh (freshness (begun width seconds) id now))) ≡ cond (eqb id 0) Zero Fresh
 unfolding freshness
@@ -61,22 +68,18 @@ by_time h (e ∷ es) time id now is some =
     let same : latest (e ∷ es) ≡ time = grind arith in
     ap (λ (t : ℕ). freshness (record { width = h.width; seconds = h.seconds; accepted = of_time t (e ∷ es) }) id now) same)
 
-some_of : (w : Kept) (h : History) → Stands w h → 0 < h.width
-unfolding Stands
-some_of w h s = s.some
-
 pub long_answer_is : (w : LongWindow) (h : LongHistory) (time id : ℕ) (now : Moment) → LongStands w h → long_answer w time id now ≡ long_freshness h time id now
 unfolding LongStands long_answer long_freshness
 long_answer_is w h time id now s =
-    rw (s.time, answer_is w.window (at_time h (latest h.accepted)) id now s.window)
+    rw (answer_is w.window (at_time h (latest h.accepted)) id now s.window, s.time)
     (by_time h h.accepted time id now refl (some_of w.window (at_time h (latest h.accepted)) s.window))
 
-pub long_stands_begun : (w : LongWindow) (width seconds : ℕ) → w.time ≡ 0 → Stands w.window (begun width seconds) → LongStands w (long_begun width seconds)
+pub long_stands_begun : (w : LongWindow) (width seconds : ℕ) → w.window.stamp ≡ 0 → Stands w.window (begun width seconds) → LongStands w (long_begun width seconds)
 unfolding LongStands
 long_stands_begun w width seconds time s = record { time = time; window = s }
 
 -- a pair of a later time begins a window anew
-pub later_accepted : (w n : LongWindow) (h : LongHistory) (time id : ℕ) (now : Moment) → LongStands w h → w.time < time → n.time ≡ time →
+pub later_accepted : (w n : LongWindow) (h : LongHistory) (time id : ℕ) (now : Moment) → LongStands w h → w.window.stamp < time → n.window.stamp ≡ time →
     Stands n.window (recorded (begun h.width h.seconds) id now) → LongStands n (long_recorded h time id now)
 unfolding LongStands
 later_accepted w n h time id now s later is stands =
@@ -88,7 +91,7 @@ later_accepted w n h time id now s later is stands =
     record { time = is ∙ sym top; window = subst (λ (t : List Accepted). Stands n.window (record { width = h.width; seconds = h.seconds; accepted = t })) (sym ids) stands }
 
 -- a pair of the same time is one id more in the window
-pub same_accepted : (w n : LongWindow) (h : LongHistory) (time id : ℕ) (now : Moment) → LongStands w h → w.time ≡ time → n.time ≡ time →
+pub same_accepted : (w n : LongWindow) (h : LongHistory) (time id : ℕ) (now : Moment) → LongStands w h → w.window.stamp ≡ time → n.window.stamp ≡ time →
     Stands n.window (recorded (at_time h (latest h.accepted)) id now) → LongStands n (long_recorded h time id now)
 unfolding LongStands
 same_accepted w n h time id now s same is stands =
@@ -102,8 +105,8 @@ same_accepted w n h time id now s same is stands =
 -- what a fresh answer says of the time, and then of the id
 pub record IsLongFresh (w : LongWindow) (time id : ℕ) (now : Moment) : Type 0 where
   pub not_zero : id ≢ 0
-  pub not_early : w.time ≤ time
-  pub within : time ≤ w.time → answer w.window id now ≡ Fresh
+  pub not_early : w.window.stamp ≤ time
+  pub within : time ≤ w.window.stamp → answer w.window id now ≡ Fresh
 
 long_fresh_when : (zero earlier later : Bool) (a : Freshness) → cond zero Zero (cond earlier Old (cond later Fresh a)) ≡ Fresh → (zero ≡ false) × (earlier ≡ false) × (later ≡ false → a ≡ Fresh)
 long_fresh_when true earlier later a h = absurd cc
@@ -114,7 +117,7 @@ long_fresh_when false false false a h = (refl, refl, λ _. h)
 pub long_fresh_is : (w : LongWindow) (time id : ℕ) (now : Moment) → long_answer w time id now ≡ Fresh → IsLongFresh w time id now
 unfolding long_answer
 long_fresh_is w time id now h =
-    let f = long_fresh_when (eqb id 0) (ltb time w.time) (ltb w.time time) (answer w.window id now) h in
+    let f = long_fresh_when (eqb id 0) (ltb time w.window.stamp) (ltb w.window.stamp time) (answer w.window id now) h in
     record { not_zero = grind (arith, f.0); not_early = grind (arith, f.1); within = λ no_later. f.2 (grind arith) }
 
 pub window_of : (w : LongWindow) (h : LongHistory) → LongStands w h → Stands w.window (at_time h (latest h.accepted))

@@ -5,10 +5,9 @@ use Rattle.vpn_base.specs.declared.names.Freshness.{Freshness}
 use Rattle.vpn_base.specs.declared.names.Freshness.TheVariants.{Fresh, Zero, Old, Seen, Late}
 use Rattle.packet_ids.specs.Freshness.{Accepted, History, greatest_id, is_overtaken, was_accepted, freshness}
 use Rattle.packet_ids.specs.LongFreshness.{LongAccepted, LongHistory, at_time, is_none_of, latest, long_freshness, of_time}
-use Rattle.packet_ids.specs.Window.{AreDistinct}
-use Rattle.packet_ids.specs.Runs.{WrapId, after, after_all, judged_so, long_after, long_after_all, long_judged_so}
+use Rattle.packet_ids.specs.Runs.{AreDistinct, WrapId, after, after_all, judged_so, long_after, long_after_all, long_judged_so}
 use Rattle.packet_ids.proofs.LongStanding.{of_time-push, of_time_above}
-use Rattle.packet_ids.proofs.Rooms.{push_distinct}
+use Rattle.packet_ids.proofs.Distinct.{push_distinct}
 use Rattle.packet_ids.proofs.Standing.{fresh_when}
 
 -- a fresh id was not accepted

@@ -40,10 +40,6 @@ overtakes seconds id now e = nat_lt id e.0 && nat_lt (e.1.0 + 1000 * seconds) no
 abbrev pub is_overtaken : ℕ → List Accepted → ℕ → Moment → Bool
 is_overtaken seconds accepted id now = list_any (overtakes seconds id now) accepted
 
--- less than the width below the greatest
-abbrev pub is_near : ℕ → ℕ → Accepted → Bool
-is_near width most e = nat_lt (most - e.0) width
-
 -- the first that holds, by the greatest id and the accepted ids
 abbrev pub judged : ℕ → ℕ → ℕ → List Accepted → ℕ → Moment → Freshness
 judged width seconds most accepted id now =

@@ -3,3 +3,4 @@ pub mod Window
 pub mod LongFreshness
 pub mod LongWindows
 pub mod Runs
+pub mod internal

@@ -7,9 +7,9 @@ use Rattle.packet_ids.specs.declared.long_windows.LongWindow.{LongWindow}
 use Rattle.packet_ids.specs.Window.{Stands, answer}
 use Rattle.packet_ids.specs.LongFreshness.{LongHistory, latest, at_time}
 
--- it keeps the latest time, and its window stands for the ids of that time
+-- its stamp is the latest time, and its window stands for the ids of that time
 pub record IsLongKeptOf (w : LongWindow) (h : LongHistory) : Type 0 where
-  pub time : w.time ≡ latest h.accepted
+  pub time : w.window.stamp ≡ latest h.accepted
   pub window : Stands w.window (at_time h (latest h.accepted))
 
 -- the same as one word, which callers do not look into
@@ -20,6 +20,6 @@ LongStands w h = IsLongKeptOf w h
 unfoldable pub long_answer : LongWindow → ℕ → ℕ → Moment → Freshness
 long_answer w time id now =
     if id == 0 then Zero
-    else if nat_lt time w.time then Old
-    else if nat_lt w.time time then Fresh
+    else if nat_lt time w.window.stamp then Old
+    else if nat_lt w.window.stamp time then Fresh
     else answer w.window id now

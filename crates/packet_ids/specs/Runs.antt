@@ -1,9 +1,9 @@
 -- Whole runs: what is answered to ids that come one after the other, where each fresh one is accepted.
-use Rattle.std.specs.Prelude.{ℕ, List, [], ◌∷◌}
+use Rattle.std.specs.Prelude.{◌≡◌, ℕ, false, List, [], ◌∷◌}
 use Rattle.vpn_base.specs.declared.names.Moment.{Moment}
 use Rattle.vpn_base.specs.declared.names.Freshness.{Freshness}
 use Rattle.vpn_base.specs.declared.names.Freshness.TheVariants.{Fresh}
-use Rattle.packet_ids.specs.Freshness.{Accepted, History, recorded, freshness}
+use Rattle.packet_ids.specs.Freshness.{Accepted, History, recorded, was_accepted, freshness}
 use Rattle.packet_ids.specs.LongFreshness.{LongHistory, long_recorded, long_freshness}
 
 -- the history after an id that was judged so
@@ -24,6 +24,11 @@ answers_to (e ∷ es) h = freshness h e.0 e.1 ∷ answers_to es (after h e)
 abbrev pub after_all : List Accepted → History → History
 after_all [] h = h
 after_all (e ∷ es) h = after_all es (after h e)
+
+-- no id comes twice
+abbrev pub AreDistinct : List Accepted → Type 0
+AreDistinct [] = Unit {0}
+AreDistinct (e ∷ es) = (was_accepted es e.0 ≡ false) × AreDistinct es
 
 -- a time, an id and a moment
 abbrev pub WrapId : Type 0

@@ -2,6 +2,7 @@
 #![tactic(auto)]
 
 mod long_windows;
+mod places;
 mod runs;
 mod sending;
 mod windows;

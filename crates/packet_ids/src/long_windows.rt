@@ -13,7 +13,7 @@ use vpn_base::{Freshness, Moment, NoMemory};
 /// protection of the control channel). Its contract is over every pair that was ever accepted.
 #[derive(Drop)]
 pub struct LongWindow {
-    time: u32,
+    // its stamp is the greatest time
     window: Window,
 }
 
@@ -24,10 +24,10 @@ fn judge_pair(window: &LongWindow, time: u32, id: u32, now: Moment) -> Freshness
     if id == 0 {
         return Freshness::Zero;
     }
-    if time < window.time {
+    if time < window.window.stamp() {
         return Freshness::Old;
     }
-    if time > window.time {
+    if time > window.window.stamp() {
         return Freshness::Fresh;
     }
     window.window.test(id, now)
@@ -40,8 +40,8 @@ impl LongWindow {
         requires { 1 ≤ n }
         ensures { IfOk result (λ w. LongStands w (long_begun n t)) }
     {
-        let window = Window::new(alloc, n, t)?;
-        Ok(LongWindow { time: 0, window })
+        let window = Window::begun(alloc, n, t)?;
+        Ok(LongWindow { window })
     }
 
     /// Whether the pair may be accepted now, over everything that was accepted: Zero for the id 0, Old
@@ -60,12 +60,11 @@ impl LongWindow {
         requires { long_answer self.old time id now ≡ Fresh }
         ensures { (h : LongHistory) → LongStands self.old h → LongStands self.new (long_recorded h time id now) }
     {
-        if time > self.time {
-            self.window.reset();
-            self.time = time;
-            self.window.accept(id, now);
+        if time > self.window.stamp() {
+            self.window.begin(time);
+            self.window.record(id, now);
         } else {
-            self.window.accept(id, now);
+            self.window.record(id, now);
         }
     }
 }

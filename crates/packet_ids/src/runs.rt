@@ -2,10 +2,10 @@
 
 ghost use Rattle.std.specs.Prelude.{◌≡◌, ◌≤◌, ◌∷◌, [], ℕ, List, IfOk};
 ghost use Rattle.packet_ids.specs.Freshness.{Accepted, History, begun, freshness};
-ghost use Rattle.packet_ids.specs.Window.{AreDistinct, Stands};
+ghost use Rattle.packet_ids.specs.Window.{Stands};
 ghost use Rattle.packet_ids.specs.LongFreshness.{LongHistory, long_begun, long_freshness, of_time};
 ghost use Rattle.packet_ids.specs.LongWindows.{LongStands};
-ghost use Rattle.packet_ids.specs.Runs.{WrapId, after, after_all, answers_to, long_after, long_after_all, long_answers_to};
+ghost use Rattle.packet_ids.specs.Runs.{AreDistinct, WrapId, after, after_all, answers_to, long_after, long_after_all, long_answers_to};
 
 use crate::long_windows::LongWindow;
 use crate::windows::Window;

@@ -1,2 +1,4 @@
 pub mod Added
 pub mod Short
+pub mod Taken
+pub mod Collected

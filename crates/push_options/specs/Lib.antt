@@ -1,3 +1,5 @@
 pub mod Options
 pub mod Parts
-pub mod Writing
+pub mod Received
+pub mod Collecting
+pub mod internal

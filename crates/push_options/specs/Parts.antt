@@ -1,4 +1,5 @@
--- The parts in which options are pushed (OpenVPN 2.6, src/openvpn/push.c, send_push_reply).
+-- The parts in which options are pushed (OpenVPN 2.6: the marks of src/openvpn/push.c, send_push_reply, and the 1,024
+-- bytes of PUSH_BUNDLE_SIZE in src/openvpn/common.h; that 20 of them are left for a mark is this profile's choice).
 use Rattle.std.specs.Prelude.{ℕ, ◌+◌, nat_le, Bool, List, [], ◌∷◌, ◌++◌, length, codes, if◌then◌else◌}
 
 -- how a part begins

@@ -55,7 +55,7 @@ struct Parts {
 }
 
 impl Model for Parts {
-    ghost use Rattle.push_options.specs.Writing.{Written};
+    ghost use Rattle.push_options.specs.internal.Writing.{Written};
 
     ghost Value = { Written };
 
@@ -63,7 +63,7 @@ impl Model for Parts {
 }
 
 impl Parts {
-    ghost use Rattle.push_options.specs.Writing.{Written, with_option};
+    ghost use Rattle.push_options.specs.internal.Writing.{Written, with_option};
 
     fn new(alloc: Global) -> Result<Parts, NoMemory>
         ensures { IfOk result (λ p. p ≡ record { done = []; part = opening }) }

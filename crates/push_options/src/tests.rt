@@ -1,7 +1,7 @@
 use super::*;
 use std::alloc::Global;
 use std::test::Fail;
-use vpn_base::{Cipher, Ip4, NoMemory, Text, TextList};
+use vpn_base::{Cipher, Ip4, NoMemory, Or, Policy, Text, TextList};
 
 fn list_of(alloc: Global, texts: &[&[u8]]) -> Result<TextList, NoMemory> {
     let mut list = TextList::new(alloc);
@@ -11,29 +11,19 @@ fn list_of(alloc: Global, texts: &[&[u8]]) -> Result<TextList, NoMemory> {
     Ok(list)
 }
 
-fn has_texts(list: &TextList, want: &[&[u8]]) -> bool {
-    if list.count() != want.len() {
-        return false;
+fn is_part(parts: &TextList, i: usize, want: &[u8]) -> bool {
+    match parts.item(i) {
+        Some(part) => part.as_slice() == want,
+        None => false,
     }
-    for (i, wanted) in want.iter().enumerate() {
-        match list.item(i) {
-            Some(text) => {
-                if text.as_slice() != *wanted {
-                    return false;
-                }
-            }
-            None => return false,
-        }
-    }
-    true
 }
 
 #[test]
-fn options_in_their_order(rt: HostRuntime) -> Result<(), Fail> {
+fn a_plan_in_one_part(rt: HostRuntime) -> Result<(), Fail> {
     let alloc = rt.alloc();
     let pushes = list_of(alloc, &[b"route 10.1.0.0 255.255.0.0"])?;
     let own = list_of(alloc, &[b"ping 5"])?;
-    let mut told = PushPlan {
+    let told = PushPlan {
         pushes: &pushes,
         reset: false,
         gateway: Ip4(0x0A08_0001),
@@ -44,111 +34,73 @@ fn options_in_their_order(rt: HostRuntime) -> Result<(), Fail> {
         peer: 0xFFFFFE,
         cipher: Cipher::Aes256Gcm,
     };
-    let list = plan(alloc, &told)?;
+    let parts = reply(alloc, &plan(alloc, &told)?)?;
+    assert_eq!(rt; parts.count(), 1);
     assert!(rt;
-        has_texts(
-            &list,
-            &[
-                b"route 10.1.0.0 255.255.0.0",
-                b"route-gateway 10.8.0.1",
-                b"topology subnet",
-                b"ping 10",
-                b"ping-restart 60",
-                b"ping 5",
-                b"ifconfig 10.8.0.9 255.255.255.0",
-                b"peer-id 16777214",
-                b"cipher AES-256-GCM",
-            ]
-        )
-    );
-    told.keepalive = None;
-    told.cipher = Cipher::Aes128Gcm;
-    let list = plan(alloc, &told)?;
-    assert!(rt;
-        has_texts(
-            &list,
-            &[
-                b"route 10.1.0.0 255.255.0.0",
-                b"route-gateway 10.8.0.1",
-                b"topology subnet",
-                b"ping 5",
-                b"ifconfig 10.8.0.9 255.255.255.0",
-                b"peer-id 16777214",
-                b"cipher AES-128-GCM",
-            ]
-        )
-    );
-    told.reset = true;
-    told.keepalive = Some((10, 60));
-    told.len = 0;
-    let list = plan(alloc, &told)?;
-    assert!(rt;
-        has_texts(
-            &list,
-            &[
-                b"ping 5",
-                b"ifconfig 10.8.0.9 0.0.0.0",
-                b"peer-id 16777214",
-                b"cipher AES-128-GCM",
-            ]
+        is_part(
+            &parts,
+            0,
+            b"PUSH_REPLY,route 10.1.0.0 255.255.0.0,route-gateway 10.8.0.1,topology subnet,ping 10,ping-restart 60,ping 5,ifconfig 10.8.0.9 255.255.255.0,peer-id 16777214,cipher AES-256-GCM"
         )
     );
     Ok(())
 }
 
-// So many options of this many bytes, and a last one.
-fn long_options(alloc: Global, count: u32, len: usize, last: usize) -> Result<TextList, NoMemory> {
-    let mut list = TextList::new(alloc);
-    for _ in 0..count {
-        list.add(Text::of(letters(alloc, len)?))?;
-    }
-    list.add(Text::of(letters(alloc, last)?))?;
-    Ok(list)
+#[test]
+fn two_parts(rt: HostRuntime) -> Result<(), Fail> {
+    let alloc = rt.alloc();
+    let mut options = TextList::new(alloc);
+    options.add(Text::of(vec![in alloc; b'a'; 1_020]?))?;
+    let parts = reply(alloc, &options)?;
+    assert_eq!(rt; parts.count(), 2);
+    assert!(rt; is_part(&parts, 0, b"PUSH_REPLY,push-continuation 2"));
+    Ok(())
 }
 
-fn letters(alloc: Global, len: usize) -> Result<Vec<u8>, NoMemory> {
-    let mut text = Vec::new(alloc);
-    for _ in 0..len {
-        text.push(b'a')?;
+#[test]
+fn a_reply_collected(rt: HostRuntime) {
+    collects_a_reply();
+    let ours = Policy::Fixed(Cipher::Aes256Gcm);
+    let mut collector = Collector::new(rt.alloc());
+    let part =
+        b"PUSH_REPLY,route 10.9.0.0,dhcp-option DNS 10.8.0.1,ping 10,ping-restart 120,push-continuation 2";
+    match collector.feed(rt.alloc(), part, &ours) {
+        Ok(None) => {}
+        _ => assert!(rt; false),
     }
-    Ok(text)
+    let part =
+        b"PUSH_REPLY,ifconfig 10.8.0.2 255.255.255.0,peer-id 0,cipher AES-256-GCM,push-continuation 1";
+    match collector.feed(rt.alloc(), part, &ours) {
+        Ok(Some(pushed)) => {
+            assert_eq!(rt; pushed.address, Ip4(0x0A08_0002));
+            assert_eq!(rt; pushed.len, 24);
+            assert_eq!(rt; pushed.routes.count(), 1);
+            assert_eq!(rt; pushed.ping, 10);
+            assert_eq!(rt; pushed.ping_restart, 120);
+            assert_eq!(rt; pushed.peer, 0);
+            assert!(rt; is_part(&pushed.rest, 0, b"dhcp-option DNS 10.8.0.1"));
+        }
+        _ => assert!(rt; false),
+    }
 }
 
-fn length_of(list: &TextList, i: usize) -> usize {
-    match list.item(i) {
-        Some(text) => text.as_slice().len(),
-        None => 0,
-    }
-}
-
-fn ends_in(list: &TextList, i: usize, end: &[u8]) -> bool {
-    match list.item(i) {
-        Some(text) => text.as_slice().ends_with(end),
-        None => false,
+// Whether a whole reply is refused for this option.
+fn is_refused(alloc: Global, part: &[u8], option: &[u8]) -> bool {
+    let mut collector = Collector::new(alloc);
+    match collector.feed(alloc, part, &Policy::Fixed(Cipher::Aes256Gcm)) {
+        Err(Or::Why(fault)) => fault.option.as_slice() == option,
+        _ => false,
     }
 }
 
 #[test]
-fn parts_of_a_reply(rt: HostRuntime) -> Result<(), Fail> {
-    let alloc = rt.alloc();
-    let list = reply(alloc, &list_of(alloc, &[b"a", b"topology subnet"])?)?;
-    assert!(rt; has_texts(&list, &[b"PUSH_REPLY,a,topology subnet"]));
-    let list = reply(alloc, &list_of(alloc, &[])?)?;
-    assert!(rt; has_texts(&list, &[b"PUSH_REPLY"]));
-    let list = reply(alloc, &long_options(alloc, 4, 202, 201)?)?;
-    assert_eq!(rt; list.count(), 1);
-    assert_eq!(rt; length_of(&list, 0), 1024);
-    assert!(rt; ends_in(&list, 0, b"aa"));
-    let list = reply(alloc, &long_options(alloc, 4, 202, 202)?)?;
-    assert_eq!(rt; list.count(), 2);
-    assert_eq!(rt; length_of(&list, 0), 842);
-    assert_eq!(rt; length_of(&list, 1), 233);
-    assert!(rt; ends_in(&list, 0, b"a,push-continuation 2"));
-    assert!(rt; ends_in(&list, 1, b"a,push-continuation 1"));
-    let list = reply(alloc, &long_options(alloc, 11, 255, 9)?)?;
-    assert_eq!(rt; list.count(), 4);
-    assert_eq!(rt; length_of(&list, 2), 798);
-    assert!(rt; ends_in(&list, 2, b"a,push-continuation 2"));
-    assert_eq!(rt; length_of(&list, 3), 552);
-    Ok(())
+fn replies_refused(rt: HostRuntime) {
+    assert!(rt;
+        is_refused(
+            rt.alloc(),
+            b"PUSH_REPLY,peer-id 0,cipher AES-256-GCM",
+            b"ifconfig"
+        )
+    );
+    assert!(rt; is_refused(rt.alloc(), b"PUSH_REPLY,peer-id 0,comp-lzo no", b"comp-lzo"));
 }

@@ -6,7 +6,7 @@ use Rattle.std.proofs.lemmas.Bool.{cases_lt, lt-leb, le-leb, lt-ltb, le-ltb}
 use Rattle.reliable_recv.specs.declared.receiving.Got.{Got}
 use Rattle.reliable_recv.specs.declared.receiving.Got.TheVariants.{New, Repeat, Ahead}
 use Rattle.reliable_recv.specs.Receiving.{Arrival, Receiving, begun, payload_of, got, taken_as, put_into, next_payload, read_as, after_next, after_acks, in_order, payloads, text, taken_after, all_taken, text_of}
-use Rattle.reliable_recv.specs.Sides.{Stands}
+use Rattle.reliable_recv.specs.Sides.{IsKeptOf}
 use Rattle.reliable_recv.specs.Runs.{IsRead, carried, text_read, all_read, reached}
 use Rattle.reliable_recv.proofs.Payloads.{payload_stays}
 use Rattle.reliable_recv.proofs.Standing.{next_is, read_some}
@@ -17,19 +17,17 @@ abbrev pub read_to : ℕ → Receiving → Receiving
 read_to n h = record h { read = n }
 
 -- the payloads that were read had been taken
-held_below : (side h : Receiving) → Stands side h → AreHeld h.taken 0 h.read
-unfolding Stands
+held_below : (side h : Receiving) → IsKeptOf side h → AreHeld h.taken 0 h.read
 held_below side h s = λ k le lt. s.were_taken k (omega arith)
 
-same_read : (side h : Receiving) → Stands side h → side.read ≡ h.read
-unfolding Stands
+same_read : (side h : Receiving) → IsKeptOf side h → side.read ≡ h.read
 same_read side h s = s.read
 
 -- at the beginning nothing more was read
-pub stands_at_first : (side h : Receiving) → Stands side h → Stands side (read_to side.read h)
-stands_at_first side h s = subst (λ (n : ℕ). Stands side (read_to n h)) (sym (same_read side h s)) s
+pub stands_at_first : (side h : Receiving) → IsKeptOf side h → IsKeptOf side (read_to side.read h)
+stands_at_first side h s = subst (λ (n : ℕ). IsKeptOf side (read_to n h)) (sym (same_read side h s)) s
 
-pub text_at_first : (side h : Receiving) (bytes : List ℕ) → Stands side h → bytes ≡ text_read h → bytes ≡ text_read (read_to side.read h)
+pub text_at_first : (side h : Receiving) (bytes : List ℕ) → IsKeptOf side h → bytes ≡ text_read h → bytes ≡ text_read (read_to side.read h)
 text_at_first side h bytes s is = subst (λ (n : ℕ). bytes ≡ text_read (read_to n h)) (sym (same_read side h s)) is
 
 next_read : (h : Receiving) (payload : List ℕ) → next_payload h ≡ Some payload → after_next h ≡ read_to (h.read + 1) h
@@ -37,15 +35,15 @@ unfolding after_next
 next_read h payload some = rw some refl
 
 -- one payload more was read
-pub stands_more : (side new h : Receiving) (payload : List ℕ) → next_payload side ≡ Some payload → Stands side (read_to side.read h) →
-    ((g : Receiving) → Stands side g → Stands new (after_next g)) → new.read ≡ (after_next side).read → Stands new (read_to new.read h)
+pub stands_more : (side new h : Receiving) (payload : List ℕ) → next_payload side ≡ Some payload → IsKeptOf side (read_to side.read h) →
+    ((g : Receiving) → IsKeptOf side g → IsKeptOf new (after_next g)) → new.read ≡ (after_next side).read → IsKeptOf new (read_to new.read h)
 stands_more side new h payload some s next count =
     let g = read_to side.read h in
     let here : next_payload g ≡ Some payload = sym (next_is side g s) ∙ some in
     let one : new.read ≡ side.read + 1 = count ∙ sym (read_some side payload some) in
-    subst (λ (n : ℕ). Stands new (read_to n h)) (sym one) (subst (λ (t : Receiving). Stands new t) (next_read g payload here) (next g s))
+    subst (λ (n : ℕ). IsKeptOf new (read_to n h)) (sym one) (subst (λ (t : Receiving). IsKeptOf new t) (next_read g payload here) (next g s))
 
-pub text_more : (side new h : Receiving) (payload : List ℕ) → next_payload side ≡ Some payload → Stands side (read_to side.read h) →
+pub text_more : (side new h : Receiving) (payload : List ℕ) → next_payload side ≡ Some payload → IsKeptOf side (read_to side.read h) →
     new.read ≡ (after_next side).read → text_read (read_to side.read h) ++ carried side.read payload ≡ text_read (read_to new.read h)
 unfolding text_read
 text_more side new h payload some s count =
@@ -55,7 +53,7 @@ text_more side new h payload some s count =
     sym (ap (λ (n : ℕ). concat (drop 1 (in_order n h.taken 0))) one ∙ text-push side.read h.taken payload (held_below side g s) here)
 
 -- where nothing is left, all was read
-pub all_was_read : (side h : Receiving) → next_payload side ≡ None → Stands side (read_to side.read h) → all_read h ≡ read_to side.read h
+pub all_was_read : (side h : Receiving) → next_payload side ≡ None → IsKeptOf side (read_to side.read h) → all_read h ≡ read_to side.read h
 unfolding all_read
 all_was_read side h none s =
     let g = read_to side.read h in
@@ -105,7 +103,7 @@ grown_text true taken a n held = in_order-append n taken (a ∷ []) 0 held
 grown_text false taken a n held = refl
 
 -- a packet more leaves the text that was read
-pub text_stays : (side : Receiving) (taken : List Arrival) (a : Arrival) → Stands side (reached taken) → text taken ≡ text_read (after_acks (put_into (reached taken) a.0 a.1) 8)
+pub text_stays : (side : Receiving) (taken : List Arrival) (a : Arrival) → IsKeptOf side (reached taken) → text taken ≡ text_read (after_acks (put_into (reached taken) a.0 a.1) 8)
 unfolding text text_read reached
 text_stays side taken a s =
     let n = length (payloads taken) in

@@ -4,10 +4,11 @@ use Rattle.std.specs.Prelude.{is_some, IsSome, ◌||◌, MatchOption}
 use Rattle.std.specs.Option.{option_or}
 use Rattle.std.specs.List.{remove, position}
 use Rattle.std.proofs.lemmas.Bool.{eqb-true, ne_eqb}
+use Rattle.std.proofs.lemmas.List.{length-append}
 use Rattle.std.proofs.lemmas.List.Edits.{length-remove}
 use Rattle.reliable_recv.specs.declared.receiving.Got.TheVariants.{New, Repeat, Ahead}
 use Rattle.reliable_recv.specs.Receiving.{Arrival, Receiving, payload_of, got}
-use Rattle.reliable_recv.specs.Sides.{AreOnce, AreNear}
+use Rattle.reliable_recv.specs.internal.Sound.{AreOnce, AreNear}
 use Rattle.reliable_recv.proofs.Payloads.{IsPlace, place_found, payload_of-append, payload_of-remove}
 
 none_or : (o other : Option (List ℕ)) → o ≡ None → other ≡ None → option_or o other ≡ None
@@ -22,7 +23,7 @@ one_apart : (a x : Arrival) → eqb x.0 a.0 ≡ false → payload_of (a ∷ []) 
 one_apart a x apart =
     let other : eqb a.0 x.0 ≡ false = ne_eqb a.0 x.0 (λ same. let yes : eqb x.0 a.0 ≡ true = let e : x.0 ≡ a.0 = sym same in grind arith in absurd cc) in rw other refl
 
-pub once_push : (held : List Arrival) (a : Arrival) → AreOnce held → payload_of held a.0 ≡ None → AreOnce (held ++ a ∷ [])
+once_push : (held : List Arrival) (a : Arrival) → AreOnce held → payload_of held a.0 ≡ None → AreOnce (held ++ a ∷ [])
 once_push [] a once none = (refl, tt)
 once_push (x ∷ held) a once none =
     let parts = apart_when (eqb x.0 a.0) x.1 (payload_of held a.0) none in
@@ -33,7 +34,7 @@ some_of (Some p) same payload P here there some = here refl
 some_of None true payload P here there some = there refl
 some_of None false payload P here there some = let no : is_some {T = List ℕ} None ≡ true = some in absurd cc
 
-pub near_push : (read : ℕ) (held : List Arrival) (id : ℕ) (payload : List ℕ) → AreNear read held → read ≤ id → id < read + 12 → AreNear read (held ++ (id, payload) ∷ [])
+near_push : (read : ℕ) (held : List Arrival) (id : ℕ) (payload : List ℕ) → AreNear read held → read ≤ id → id < read + 12 → AreNear read (held ++ (id, payload) ∷ [])
 near_push read held id payload near le lt = λ k some.
     some_of (payload_of held k) (eqb id k) payload ((read ≤ k) × (k < read + 12)) (near k)
     (λ same. let e : id ≡ k = eqb-true id k same in (omega (arith, e), omega (arith, e)))
@@ -119,12 +120,25 @@ new_so false false (Some p) is = absurd cc
 new_so false false None is = (refl, refl, refl)
 
 -- what is new is near, and is not held
-pub record IsNew (r : Receiving) (id : ℕ) : Type 0 where
-  pub above : r.read ≤ id
-  pub near : id < r.read + 12
-  pub none : payload_of r.taken id ≡ None
+record IsNew (r : Receiving) (id : ℕ) : Type 0 where
+  above : r.read ≤ id
+  near : id < r.read + 12
+  none : payload_of r.taken id ≡ None
 
-pub unheld_when_new : (r : Receiving) (id : ℕ) → New ≡ got r id → IsNew r id
+unheld_when_new : (r : Receiving) (id : ℕ) → New ≡ got r id → IsNew r id
 unheld_when_new r id is =
     let k = new_so (leb (r.read + 12) id) (ltb id r.read) (payload_of r.taken id) is in
     record { above = grind (arith, k.1); near = grind (arith, k.0); none = k.2 }
+
+-- a new payload is held once
+pub once_with : (r : Receiving) (id : ℕ) (payload : List ℕ) → New ≡ got r id → AreOnce r.taken → AreOnce (r.taken ++ (id, payload) ∷ [])
+once_with r id payload is once = once_push r.taken (id, payload) once (unheld_when_new r id is).none
+
+-- its id is near
+pub near_with : (r : Receiving) (id : ℕ) (payload : List ℕ) → New ≡ got r id → AreNear r.read r.taken → AreNear r.read (r.taken ++ (id, payload) ∷ [])
+near_with r id payload is near = let new = unheld_when_new r id is in near_push r.read r.taken id payload near new.above new.near
+
+-- so there is a place for it
+pub few_with : (r : Receiving) (id : ℕ) → New ≡ got r id → AreOnce r.taken → AreNear r.read r.taken → length r.taken < 12
+few_with r id is once near =
+    let few = few_held r.read (r.taken ++ (id, []) ∷ []) (once_with r id [] is once) (near_with r id [] is near) in omega (arith, few, length-append r.taken ((id, []) ∷ []))

@@ -6,7 +6,7 @@ use Rattle.std.proofs.lemmas.Bool.{cases_lt, le-ltb, lt-ltb, lt-leb}
 use Rattle.reliable_recv.specs.declared.receiving.Got.{Got}
 use Rattle.reliable_recv.specs.declared.receiving.Got.TheVariants.{New, Repeat, Ahead}
 use Rattle.reliable_recv.specs.Receiving.{Arrival, Receiving, begun, payload_of, got, taken_as, put_into, next_payload, read_as, after_next, acks_of, after_acks}
-use Rattle.reliable_recv.specs.Sides.{Stands}
+use Rattle.reliable_recv.specs.Sides.{IsKeptOf}
 use Rattle.reliable_recv.proofs.Payloads.{any_held, payload_again, payload_stays, payload_behind}
 
 got_when : (ahead below : Bool) (x y : Option (List ℕ)) → (below ≡ false → x ≡ y) →
@@ -16,8 +16,7 @@ got_when false true x y same = refl
 got_when false false x y same = rw (same refl) refl
 
 -- what comes of a packet is the same
-pub got_is : (side h : Receiving) (id : ℕ) → Stands side h → got side id ≡ got h id
-unfolding Stands
+pub got_is : (side h : Receiving) (id : ℕ) → IsKeptOf side h → got side id ≡ got h id
 got_is side h id s =
     rw s.read (got_when (leb (h.read + 12) id) (ltb id h.read) (payload_of side.taken id) (payload_of h.taken id)
     (λ not_below. let le : h.read ≤ id = grind (arith, not_below) in s.unread id le))
@@ -38,8 +37,7 @@ repeat_when false false None is not_below = absurd cc
 repeated : (h : Receiving) (id : ℕ) → Repeat ≡ got h id → h.read ≤ id → IsSome (payload_of h.taken id)
 repeated h id is le = repeat_when (leb (h.read + 12) id) (ltb id h.read) (payload_of h.taken id) is (le-ltb id h.read le)
 
-stands_as : (g : Got) (side h : Receiving) (id : ℕ) (payload : List ℕ) → g ≡ got h id → Stands side h → Stands (kept_after g side id payload) (taken_as g h id payload)
-unfolding Stands
+stands_as : (g : Got) (side h : Receiving) (id : ℕ) (payload : List ℕ) → g ≡ got h id → IsKeptOf side h → IsKeptOf (kept_after g side id payload) (taken_as g h id payload)
 stands_as Ahead side h id payload is s = s
 stands_as Repeat side h id payload is s = record {
   read = s.read;
@@ -55,26 +53,24 @@ stands_as New side h id payload is s = record {
 }
 
 -- after a packet it stands for the history with it
-pub stands_put : (g : Got) (side h : Receiving) (id : ℕ) (payload : List ℕ) → g ≡ got side id → Stands side h → Stands (kept_after g side id payload) (put_into h id payload)
+pub stands_put : (g : Got) (side h : Receiving) (id : ℕ) (payload : List ℕ) → g ≡ got side id → IsKeptOf side h → IsKeptOf (kept_after g side id payload) (put_into h id payload)
 unfolding put_into
 stands_put g side h id payload is s =
     let same : g ≡ got h id = is ∙ got_is side h id s in
-    subst (λ (o : Got). Stands (kept_after g side id payload) (taken_as o h id payload)) same (stands_as g side h id payload same s)
+    subst (λ (o : Got). IsKeptOf (kept_after g side id payload) (taken_as o h id payload)) same (stands_as g side h id payload same s)
 
 -- the payload that is read next is the same
-pub next_is : (side h : Receiving) → Stands side h → next_payload side ≡ next_payload h
-unfolding Stands
+pub next_is : (side h : Receiving) → IsKeptOf side h → next_payload side ≡ next_payload h
 next_is side h s = let le : h.read ≤ h.read = omega arith in ap (λ (k : ℕ). payload_of side.taken k) s.read ∙ s.unread h.read le
 
 -- where none is there, nothing changes
-pub stands_none : (side h : Receiving) → next_payload side ≡ None → Stands side h → Stands side (after_next h)
+pub stands_none : (side h : Receiving) → next_payload side ≡ None → IsKeptOf side h → IsKeptOf side (after_next h)
 unfolding after_next
 stands_none side h none s = let e : next_payload h ≡ None = sym (next_is side h s) ∙ none in rw e s
 
-read_more : (side h : Receiving) (taken : List Arrival) (payload : List ℕ) → next_payload h ≡ Some payload → Stands side h →
+read_more : (side h : Receiving) (taken : List Arrival) (payload : List ℕ) → next_payload h ≡ Some payload → IsKeptOf side h →
     ((other : ℕ) → other ≢ side.read → payload_of taken other ≡ payload_of side.taken other) →
-    Stands (record { taken = taken; read = side.read + 1; waiting = side.waiting }) (record h { read = h.read + 1 })
-unfolding Stands
+    IsKeptOf (record { taken = taken; read = side.read + 1; waiting = side.waiting }) (record h { read = h.read + 1 })
 read_more side h taken payload some s others = record {
   read = ap (λ (k : ℕ). k + 1) s.read;
   waiting = s.waiting;
@@ -86,25 +82,23 @@ read_more side h taken payload some s others = record {
 }
 
 -- after it was read, the side that took it out stands for the history
-pub stands_next : (side h : Receiving) (taken : List Arrival) (payload : List ℕ) → next_payload side ≡ Some payload → Stands side h →
+pub stands_next : (side h : Receiving) (taken : List Arrival) (payload : List ℕ) → next_payload side ≡ Some payload → IsKeptOf side h →
     ((other : ℕ) → other ≢ side.read → payload_of taken other ≡ payload_of side.taken other) →
-    Stands (record { taken = taken; read = side.read + 1; waiting = side.waiting }) (after_next h)
+    IsKeptOf (record { taken = taken; read = side.read + 1; waiting = side.waiting }) (after_next h)
 unfolding after_next
 stands_next side h taken payload some s others =
     let e : next_payload h ≡ Some payload = sym (next_is side h s) ∙ some in
-    subst (λ (o : Option (List ℕ)). Stands (record { taken = taken; read = side.read + 1; waiting = side.waiting }) (read_as o h)) (sym e) (read_more side h taken payload e s others)
+    subst (λ (o : Option (List ℕ)). IsKeptOf (record { taken = taken; read = side.read + 1; waiting = side.waiting }) (read_as o h)) (sym e) (read_more side h taken payload e s others)
 
 -- the ids that are taken to be acknowledged are the same
-pub acks_is : (side h : Receiving) (most : ℕ) → Stands side h → acks_of side most ≡ acks_of h most
-unfolding Stands
+pub acks_is : (side h : Receiving) (most : ℕ) → IsKeptOf side h → acks_of side most ≡ acks_of h most
 acks_is side h most s = rw s.waiting refl
 
-pub stands_acks : (side h : Receiving) (most : ℕ) → Stands side h → Stands (after_acks side most) (after_acks h most)
-unfolding Stands after_acks
+pub stands_acks : (side h : Receiving) (most : ℕ) → IsKeptOf side h → IsKeptOf (after_acks side most) (after_acks h most)
+unfolding after_acks
 stands_acks side h most s = record { read = s.read; waiting = ap (λ (t : List ℕ). drop (min most 8) t) s.waiting; unread = s.unread; were_taken = s.were_taken }
 
-pub stands_begun : Stands begun begun
-unfolding Stands
+pub stands_begun : IsKeptOf begun begun
 stands_begun = record { read = refl; waiting = refl; unread = λ k le. refl; were_taken = λ k below. absurd (omega arith) }
 
 -- ---- what comes of a packet, by the tests of the code

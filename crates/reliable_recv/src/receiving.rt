@@ -1,15 +1,17 @@
 //! The receiving side of one key session.
 
-ghost use Rattle.std.specs.Prelude.{◌≡◌, ◌≢◌, ◌==◌, ℕ, ◌+◌, ◌^◌, ◌<◌, ◌≤◌, min, [], ◌∷◌, ◌++◌, List, length, take, drop, slice_index_or, is_some, IsSome, IfOk, OnOk, OnErr, OnSome, IfNone, None};
+ghost use Rattle.std.specs.Prelude.{◌≡◌, ◌≢◌, ◌==◌, ℕ, ◌+◌, ◌^◌, ◌<◌, ◌≤◌, min, [], ◌∷◌, ◌++◌, List, length, take, drop, slice_index_or, is_some, IsSome, IsOk, IfOk, OnOk, OnErr, OnSome, IfNone, None, vec_len, vec_capacity};
 ghost use Rattle.std.specs.List.{list_any, position};
 ghost use Rattle.std.specs.VecDeque.{deque_len, deque_capacity};
 ghost use Rattle.vpn_base.specs.Acks.{acked, AreAcks};
 ghost use Rattle.reliable_recv.specs.Receiving.{Arrival, Receiving, begun, payload_of, got, put_into, next_payload, after_next, acks_of, after_acks};
-ghost use Rattle.reliable_recv.specs.Sides.{AreOnce, Stands};
+ghost use Rattle.reliable_recv.specs.Sides.{Stands};
+ghost use Rattle.reliable_recv.specs.internal.Sound.{AreOnce};
 
 use std::alloc::Global;
 use std::collections::VecDeque;
 use std::marker::Model;
+use std::mem;
 use vpn_base::{Acks, Bytes, NoMemory};
 
 /// What comes of a control packet, by its packet id.
@@ -26,28 +28,36 @@ pub enum Got {
 /// The receiving side of one key session's control packets (OpenVPN network protocol, reliability layer
 /// of the control channel): their payloads, to be read in the order of their ids from 0 on, and the ids
 /// that wait to be acknowledged. It forgets what was read; its contract is over everything that was
-/// ever taken.
+/// ever taken. Beside that contracts see how many bytes of the next payload there is room for.
 #[derive(Drop)]
 pub struct RecvSide {
     held: Vec<(u32, Bytes)>,
     read: u64,
     waiting: VecDeque<u32>,
+    spare: Vec<u8>,
 }
 
 impl Model for RecvSide {
+    ghost use Rattle.std.specs.Prelude.{vec_capacity};
     ghost use Rattle.std.specs.VecDeque.{deque_len, deque_capacity};
-    ghost use Rattle.reliable_recv.specs.Receiving.{Receiving};
-    ghost use Rattle.reliable_recv.specs.Sides.{IsSound};
+    ghost use Rattle.reliable_recv.specs.Sides.{Side};
+    ghost use Rattle.reliable_recv.specs.internal.Sound.{IsSound};
 
-    ghost Value = { Receiving };
+    ghost Value = { Side };
 
-    ghost view = { λ s. record { taken = s.held.items; read = s.read; waiting = s.waiting.items } };
+    ghost view = { λ s. record {
+      kept = record { taken = s.held.items; read = s.read; waiting = s.waiting.items };
+      spare = vec_capacity s.spare;
+    } };
 
-    ghost invariant = { λ s. IsSound s.held.items s.read (deque_len s.waiting) (deque_capacity s.waiting) };
+    ghost invariant = { λ s. IsSound s.held.items s.read (deque_len s.waiting) (deque_capacity s.waiting) (vec_capacity s.held) s.spare.items };
 }
 
 /// How far ahead of what was read a packet id may lie.
 const WINDOW: u64 = 12;
+
+/// How many payloads are held at most.
+const MOST_HELD: usize = 12;
 
 /// How many ids may wait to be acknowledged, as many as one packet acknowledges.
 const MOST_WAITING: usize = 8;
@@ -71,13 +81,23 @@ fn judge(read: u64, held: &[(u32, Bytes)], id: u32) -> Got
     Got::New
 }
 
-fn hold(held: &mut Vec<(u32, Bytes)>, id: u32, payload: &[u8]) -> Result<(), NoMemory>
-    ensures ok { OnOk result (held.new.items ≡ held.old.items ++ (id, payload.now) ∷ []) }
-    ensures err { OnErr result (held.new.items ≡ held.old.items) }
+// A copy of a payload, in the spare room where that is large enough.
+fn copy_into(spare: &mut Vec<u8>, payload: &[u8]) -> Result<Bytes, NoMemory>
+    requires { spare.old.items ≡ [] }
+    ensures ok { IfOk result (λ bytes. bytes ≡ payload.now) }
+    ensures err { OnErr result (spare.new ≡ spare.old) }
+    ensures fits { length payload.now ≤ vec_capacity spare.old → IsOk result }
+    ensures empty { spare.new.items ≡ [] }
 {
-    let bytes = Bytes::copy(*held.allocator(), payload)?;
-    held.push((id, bytes))?;
-    Ok(())
+    let alloc = *spare.allocator();
+    if spare.capacity() < payload.len() {
+        return Bytes::copy(alloc, payload);
+    }
+    let mut bytes = mem::replace(spare, Vec::new(alloc));
+    let filled = bytes.extend_from_slice(payload);
+    prove!(filled.is_ok());
+    let _ = filled;
+    Ok(Bytes::of(bytes))
 }
 
 fn place_of(held: &[(u32, Bytes)], id: u64) -> Option<usize>
@@ -94,6 +114,7 @@ fn take_out(held: &mut Vec<(u32, Bytes)>, id: u64) -> Option<Bytes>
     ensures small { OnSome result (id < 2 ^ 32) }
     ensures none { IfNone result (held.new.items ≡ held.old.items) }
     ensures once { AreOnce held.old.items → AreOnce held.new.items × (payload_of held.new.items id ≡ None) }
+    ensures capacity { vec_capacity held.new ≡ vec_capacity held.old }
 {
     let place = place_of(held, id)?;
     let (_, payload) = held.remove(place);
@@ -132,33 +153,52 @@ fn take_ids(waiting: &mut VecDeque<u32>, most: u8) -> Acks
 }
 
 impl RecvSide {
-    /// A side to which nothing came yet. The room for the ids that wait is taken here.
+    /// A side to which nothing came yet. The room for the packets that are held and for the ids that wait
+    /// is taken here.
     pub fn new(alloc: Global) -> Result<RecvSide, NoMemory>
         ensures stands { IfOk result (λ s. Stands s begun) }
-        ensures fresh { IfOk result (λ s. s ≡ begun) }
+        ensures fresh { IfOk result (λ s. s.kept ≡ begun) }
     {
+        let held = Vec::with_capacity(alloc, MOST_HELD)?;
         let waiting = VecDeque::with_capacity(alloc, MOST_WAITING)?;
         Ok(RecvSide {
-            held: Vec::new(alloc),
+            held,
             read: 0,
             waiting,
+            spare: Vec::new(alloc),
         })
+    }
+
+    /// Takes the room for the next payload, of at most so many bytes. It is Ok where that room is there.
+    #[tactic(auto, unfolding(crate::specs::Sides::Stands))]
+    pub fn reserve(&mut self, bytes: usize) -> Result<(), NoMemory>
+        ensures same { self.new.kept ≡ self.old.kept }
+        ensures stands { (h : Receiving) → Stands self.old h → Stands self.new h }
+        ensures ok { OnOk result (bytes ≤ self.new.spare) }
+        ensures grows { self.old.spare ≤ self.new.spare }
+        ensures fits { bytes ≤ self.old.spare → IsOk result }
+    {
+        self.spare.reserve(bytes)?;
+        Ok(())
     }
 
     /// Takes a packet of this id. With r payloads read, it is Ahead exactly where the id is at least
     /// r + 12, and dropped then; Repeat exactly where the id is below r or a packet of it is held; else
     /// New. A new or repeated packet's id waits to be acknowledged. No more than 12 payloads are held.
-    /// After want of memory the side is as before.
+    /// It takes no memory where the payload fits the room that `reserve` took, and that room is used up
+    /// by a new packet alone. After want of memory the side is as before.
     pub fn put(&mut self, id: u32, payload: &[u8]) -> Result<Got, NoMemory>
-        requires { length self.old.waiting < 8 }
-        ensures same { IfOk result (λ g. g ≡ got self.old id) }
+        requires { length self.old.kept.waiting < 8 }
+        ensures same { IfOk result (λ g. g ≡ got self.old.kept id) }
         ensures exact { IfOk result (λ g. (h : Receiving) → Stands self.old h → g ≡ got h id) }
         ensures ok { OnOk result ((h : Receiving) → Stands self.old h → Stands self.new (put_into h id payload.now)) }
-        ensures waiting { OnOk result (self.new.waiting ≡ (put_into self.old id payload.now).waiting) }
-        ensures one_more { length self.new.waiting ≤ length self.old.waiting + 1 }
-        ensures read { self.new.read ≡ self.old.read }
-        ensures few { length self.new.taken ≤ 12 }
+        ensures waiting { OnOk result (self.new.kept.waiting ≡ (put_into self.old.kept id payload.now).waiting) }
+        ensures one_more { length self.new.kept.waiting ≤ length self.old.kept.waiting + 1 }
+        ensures read { self.new.kept.read ≡ self.old.kept.read }
+        ensures few { length self.new.kept.taken ≤ 12 }
         ensures err { OnErr result (self.new ≡ self.old) }
+        ensures fits { length payload.now ≤ self.old.spare → IsOk result }
+        ensures spare { IfOk result (λ g. g ≢ Got.New → self.old.spare ≤ self.new.spare) }
     {
         match judge(self.read, &self.held, id) {
             Got::Ahead => Ok(Got::Ahead),
@@ -167,7 +207,8 @@ impl RecvSide {
                 Ok(Got::Repeat)
             }
             Got::New => {
-                hold(&mut self.held, id, payload)?;
+                let bytes = copy_into(&mut self.spare, payload)?;
+                self.held.push_reserved((id, bytes));
                 self.waiting.push_back_reserved(id);
                 Ok(Got::New)
             }
@@ -177,14 +218,15 @@ impl RecvSide {
     /// Reads the payload whose id is the number of those that were read. It is None exactly where that
     /// payload is not held. It takes no memory.
     pub fn next_in_order(&mut self) -> Option<Bytes>
-        ensures same { result ≡ next_payload self.old }
+        ensures same { result ≡ next_payload self.old.kept }
         ensures exact { (h : Receiving) → Stands self.old h → result ≡ next_payload h }
         ensures stands { (h : Receiving) → Stands self.old h → Stands self.new (after_next h) }
         ensures none { IfNone result (self.new ≡ self.old) }
-        ensures waiting { self.new.waiting ≡ self.old.waiting }
-        ensures read { self.new.read ≡ (after_next self.old).read }
-        ensures bound { self.new.read ≤ 2 ^ 32 }
-        ensures few { length self.new.taken ≤ 12 }
+        ensures waiting { self.new.kept.waiting ≡ self.old.kept.waiting }
+        ensures read { self.new.kept.read ≡ (after_next self.old.kept).read }
+        ensures bound { self.new.kept.read ≤ 2 ^ 32 }
+        ensures few { length self.new.kept.taken ≤ 12 }
+        ensures spare { self.old.spare ≤ self.new.spare }
     {
         let payload = take_out(&mut self.held, self.read)?;
         self.read += 1;
@@ -194,12 +236,13 @@ impl RecvSide {
     /// Takes so many of the ids that wait to be acknowledged, the oldest first, at most 8. It takes no
     /// memory.
     pub fn take_acks(&mut self, most: u8) -> Acks
-        ensures given { acked result ≡ acks_of self.old most }
+        ensures given { acked result ≡ acks_of self.old.kept most }
         ensures acks { AreAcks result }
         ensures exact { (h : Receiving) → Stands self.old h → acked result ≡ acks_of h most }
-        ensures new { self.new ≡ after_acks self.old most }
-        ensures count { length self.new.waiting + result.count ≡ length self.old.waiting }
+        ensures new { self.new.kept ≡ after_acks self.old.kept most }
+        ensures count { length self.new.kept.waiting + result.count ≡ length self.old.kept.waiting }
         ensures stands { (h : Receiving) → Stands self.old h → Stands self.new (after_acks h most) }
+        ensures spare { self.old.spare ≤ self.new.spare }
     {
         take_ids(&mut self.waiting, most)
     }
@@ -207,7 +250,7 @@ impl RecvSide {
     /// How many ids wait to be acknowledged.
     #[tactic(auto, unfolding(crate::specs::Sides::Stands))]
     pub fn acks_waiting(&self) -> u8
-        ensures same { result ≡ length self.now.waiting }
+        ensures same { result ≡ length self.now.kept.waiting }
         ensures exact { (h : Receiving) → Stands self.now h → result ≡ length h.waiting }
     {
         self.waiting.len() as u8
@@ -216,7 +259,7 @@ impl RecvSide {
     /// How many payloads were read.
     #[tactic(auto, unfolding(crate::specs::Sides::Stands))]
     pub fn read_count(&self) -> u64
-        ensures same { result ≡ self.now.read }
+        ensures same { result ≡ self.now.kept.read }
         ensures exact { (h : Receiving) → Stands self.now h → result ≡ h.read }
     {
         self.read

@@ -25,7 +25,7 @@ fn add_text(text: &mut Vec<u8>, id: u64, payload: &[u8]) -> Result<(), NoMemory>
 fn read_in_order(side: &mut RecvSide, text: &mut Vec<u8>) -> Result<(), NoMemory>
     ensures stands { OnOk result ((h : Receiving) → Stands side.old h → Stands side.new (all_read h)) }
     ensures text { OnOk result ((h : Receiving) → Stands side.old h → text.old.items ≡ text_read h → text.new.items ≡ text_read (all_read h)) }
-    ensures waiting { side.new.waiting ≡ side.old.waiting }
+    ensures waiting { side.new.kept.waiting ≡ side.old.kept.waiting }
 {
     'payloads: loop {
         let id = side.read_count();
@@ -37,9 +37,9 @@ fn read_in_order(side: &mut RecvSide, text: &mut Vec<u8>) -> Result<(), NoMemory
 }
 
 fn put_next(side: &mut RecvSide, id: u32, payload: &[u8]) -> Result<(), NoMemory>
-    requires { side.old.waiting ≡ [] }
+    requires { side.old.kept.waiting ≡ [] }
     ensures stands { OnOk result ((h : Receiving) → Stands side.old h → Stands side.new (after_acks (put_into h id payload.now) 8)) }
-    ensures none { OnOk result (side.new.waiting ≡ []) }
+    ensures none { OnOk result (side.new.kept.waiting ≡ []) }
 {
     let _ = side.put(id, payload)?;
     let _ = side.take_acks(8);

@@ -2,7 +2,7 @@
 use Rattle.std.proofs.Common.{◌≡◌, ℕ, zero, suc, ◌<◌, ◌≤◌, true, false, List, [], ◌∷◌, length, get_or, set, refl, ap, arith}
 use Rattle.std.specs.Prelude.{is_some}
 use Rattle.reliable_send.specs.declared.pieces.KeptPiece.{KeptPiece}
-use Rattle.reliable_send.specs.Sides.{alter, mark}
+use Rattle.reliable_send.specs.internal.Walks.{alter, mark}
 
 pub alter_is : (change : KeptPiece → KeptPiece) (k : ℕ) (ps : List KeptPiece) (d : KeptPiece) → k < length ps → alter change k ps ≡ set ps k (change (get_or ps k d))
 alter_is change k [] d below = absurd (omega arith)

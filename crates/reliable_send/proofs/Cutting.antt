@@ -6,7 +6,8 @@ use Rattle.std.specs.Prelude.{All}
 use Rattle.std.specs.Int.{div_ceil}
 use Rattle.reliable_send.specs.Sending.{cut_into, cut, unsent}
 use Rattle.reliable_send.specs.declared.pieces.KeptPiece.{KeptPiece}
-use Rattle.reliable_send.specs.Sides.{seen, waiting, IsSmall}
+use Rattle.reliable_send.specs.Sides.{seen}
+use Rattle.reliable_send.specs.internal.Sound.{waiting, IsSmall}
 
 -- the pieces are the same for every count that is large enough
 cut_enough : (n m : ℕ) (bytes : List ℕ) → length bytes ≤ n → length bytes ≤ m → cut_into n bytes ≡ cut_into m bytes
@@ -104,3 +105,13 @@ more_cut made after whole rest front piece size some is here kept pushed invaria
     let left : take (length rest - size) (drop size rest) ≡ drop 1100 rest = take_rest rest size ∙ back_min size rest is in
     let first : piece ≡ fresh (take 1100 rest) = kept ∙ ap fresh (here ∙ front_min size rest is) in
     rw (left, pushed, first, append_assoc) (let e = cut-some rest some in rw e at invariant)
+
+-- the pieces of what is left are one less
+pub length-cut-some : (rest : List ℕ) (size : ℕ) → 0 < length rest → size ≡ min (length rest) 1100 → length (cut rest) ≡ suc (length (cut (take (length rest - size) (drop size rest))))
+length-cut-some rest size some is =
+    let left : take (length rest - size) (drop size rest) ≡ drop 1100 rest = take_rest rest size ∙ back_min size rest is in
+    rw left (ap length (cut-some rest some))
+
+-- of fewer bytes there are no more pieces
+pub fewer_cuts : (bytes : List ℕ) (most : ℕ) → length bytes ≤ most → length (cut bytes) ≤ div_ceil most 1100
+fewer_cuts bytes most few = let e = length-cut bytes in omega (arith, e)

@@ -6,7 +6,8 @@ use Rattle.reliable_send.specs.declared.pieces.KeptPiece.{KeptPiece}
 use Rattle.vpn_base.specs.declared.names.Moment.{Moment}
 use Rattle.reliable_send.specs.declared.pieces.Wanted.{Wanted}
 use Rattle.reliable_send.specs.declared.pieces.Wanted.TheVariants.{Unsent, Due}
-use Rattle.reliable_send.specs.Sides.{alter, count_one, counted_pieces, fits, found, is_among}
+use Rattle.reliable_send.specs.Sides.{is_among}
+use Rattle.reliable_send.specs.internal.Walks.{alter, count_one, counted_pieces, fits, found}
 
 -- no id below the first is found
 pub not_below : (w : Wanted) (first id : ℕ) (ps : List KeptPiece) → id < first → is_among id (found w first ps) ≡ false

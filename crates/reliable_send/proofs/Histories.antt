@@ -8,7 +8,9 @@ use Rattle.reliable_send.specs.declared.pieces.KeptPiece.{KeptPiece}
 use Rattle.reliable_send.specs.declared.pieces.Wanted.{Wanted}
 use Rattle.reliable_send.specs.declared.pieces.Wanted.TheVariants.{Unsent, Due}
 use Rattle.reliable_send.specs.Sending.{Offered, Sending, Numbered, acknowledge, unacknowledged, unsent, was_sent, first_unacknowledged, those, may_be_sent, ready, interval, is_over, is_due, due, send}
-use Rattle.reliable_send.specs.Sides.{AreAckedSent, AreUnsent, alter, count_one, fits, found, has_passed, in_flight, interval_behind, last_of, leading, mark, next_interval, seen, waiting}
+use Rattle.reliable_send.specs.Sides.{AreAckedSent, AreUnsent, in_flight, interval_behind, last_of, seen}
+use Rattle.reliable_send.specs.internal.Sound.{waiting}
+use Rattle.reliable_send.specs.internal.Walks.{alter, count_one, fits, found, has_passed, leading, mark, next_interval}
 use Rattle.reliable_send.proofs.Shrinking.{Test, sent_again}
 use Rattle.reliable_send.proofs.Cutting.{fresh}
 

@@ -6,7 +6,8 @@ use Rattle.std.specs.Prelude.{All}
 use Rattle.vpn_base.specs.declared.names.Moment.{Moment}
 use Rattle.reliable_send.specs.declared.pieces.KeptPiece.{KeptPiece}
 use Rattle.reliable_send.specs.Sending.{cut}
-use Rattle.reliable_send.specs.Sides.{IsSmall, IsSound, alter, count_one, counted_pieces, leading, mark, waiting}
+use Rattle.reliable_send.specs.internal.Sound.{IsSmall, IsSound, waiting}
+use Rattle.reliable_send.specs.internal.Walks.{alter, count_one, counted_pieces, leading, mark}
 use Rattle.reliable_send.proofs.Altered.{length-alter}
 use Rattle.reliable_send.proofs.Cutting.{fresh, small-cut, waiting-cut}
 

@@ -6,7 +6,9 @@ use Rattle.vpn_base.specs.declared.names.Moment.{Moment}
 use Rattle.reliable_send.specs.declared.pieces.KeptPiece.{KeptPiece}
 use Rattle.reliable_send.specs.declared.pieces.Wanted.TheVariants.{Unsent, Due}
 use Rattle.reliable_send.specs.Sending.{Offered, Sending, Numbered, acknowledge, acked, begun, cut, first_unacknowledged, is_full, offered, peer_started, ready, due, send, sent, unsent}
-use Rattle.reliable_send.specs.Sides.{Side, Stands, alter, count_one, counted, counted_pieces, first_id, found, in_flight, is_among, leading, mark, seen, waiting}
+use Rattle.reliable_send.specs.Sides.{IsKeptOf, Kept, counted, first_id, in_flight, is_among, seen}
+use Rattle.reliable_send.specs.internal.Sound.{waiting}
+use Rattle.reliable_send.specs.internal.Walks.{alter, count_one, counted_pieces, found, leading, mark}
 use Rattle.reliable_send.proofs.Shrinking.{first-send}
 use Rattle.reliable_send.proofs.Cutting.{fresh}
 use Rattle.reliable_send.proofs.Finding.{either_within}
@@ -15,42 +17,34 @@ use Rattle.reliable_send.proofs.Histories.{ready_found, due_found, few_ready, fe
 -- ---- what goes out
 
 -- what may be sent is what is found
-pub ready_is : (w : Side) (h : Sending) → Stands w h → found (Unsent w.started) w.first (take 6 w.pieces) ≡ ready h
-unfolding Stands
+pub ready_is : (w : Kept) (h : Sending) → IsKeptOf w h → found (Unsent w.started) w.first (take 6 w.pieces) ≡ ready h
 ready_is w h s =
     rw (s.started, s.first, s.pieces, take-map (seen h.timeout) 6 (drop (first_unacknowledged h.pieces) h.pieces)) (ready_found h s.reached.acked s.reached.beyond)
 
 -- what is due is what is found
-pub due_is : (w : Side) (h : Sending) (now : Moment) → Stands w h → found (Due now) w.first (take 6 w.pieces) ≡ due h now.0
-unfolding Stands
+pub due_is : (w : Kept) (h : Sending) (now : Moment) → IsKeptOf w h → found (Due now) w.first (take 6 w.pieces) ≡ due h now.0
 due_is w h now s =
     rw (s.first, s.pieces, take-map (seen h.timeout) 6 (drop (first_unacknowledged h.pieces) h.pieces)) (due_found h now s.reached.acked s.reached.beyond)
 
 -- at most 6 may be sent, are due, or are in flight
-pub ready_few : (w : Side) (h : Sending) → Stands w h → length (ready h) ≤ 6
-unfolding Stands
+pub ready_few : (w : Kept) (h : Sending) → IsKeptOf w h → length (ready h) ≤ 6
 ready_few w h s = few_ready h s.reached.acked s.reached.beyond
 
-pub due_few : (w : Side) (h : Sending) (now : ℕ) → Stands w h → length (due h now) ≤ 6
-unfolding Stands
+pub due_few : (w : Kept) (h : Sending) (now : ℕ) → IsKeptOf w h → length (due h now) ≤ 6
 due_few w h now s = few_due h now s.reached.acked s.reached.beyond
 
-pub in_flight_few : (w : Side) (h : Sending) → Stands w h → length (in_flight h) ≤ 6
-unfolding Stands
+pub in_flight_few : (w : Kept) (h : Sending) → IsKeptOf w h → length (in_flight h) ≤ 6
 in_flight_few w h s = few_in_flight h s.reached.acked s.reached.beyond
 
-pub some_timeout : (w : Side) (h : Sending) → Stands w h → 1 ≤ h.timeout
-unfolding Stands
+pub some_timeout : (w : Kept) (h : Sending) → IsKeptOf w h → 1 ≤ h.timeout
 some_timeout w h s = s.reached.some
 
-pub most_timeout : (w : Side) (h : Sending) → Stands w h → h.timeout ≤ 60
-unfolding Stands
+pub most_timeout : (w : Kept) (h : Sending) → IsKeptOf w h → h.timeout ≤ 60
 most_timeout w h s = s.reached.most
 
 -- ---- the steps
 
-pub stands_begun : (t : ℕ) → 1 ≤ t → t ≤ 60 → Stands (record { timeout = t; started = false; first = 0; pieces = fresh [] ∷ [] }) (begun t)
-unfolding Stands
+pub stands_begun : (t : ℕ) → 1 ≤ t → t ≤ 60 → IsKeptOf (record { timeout = t; started = false; first = 0; pieces = fresh [] ∷ [] }) (begun t)
 stands_begun t some most = record {
   timeout = refl;
   started = refl;
@@ -59,8 +53,7 @@ stands_begun t some most = record {
   reached = record { some = some; most = most; acked = (λ e. absurd cc, tt); beyond = tt };
 }
 
-pub stands_started : (w : Side) (h : Sending) → Stands w h → Stands (record w { started = true }) (peer_started h)
-unfolding Stands
+pub stands_started : (w : Kept) (h : Sending) → IsKeptOf w h → IsKeptOf (record w { started = true }) (peer_started h)
 stands_started w h s = record {
   timeout = s.timeout;
   started = refl;
@@ -70,10 +63,10 @@ stands_started w h s = record {
 }
 
 -- an acknowledgement of a piece that is forgotten
-pub stands_acked_before : (w : Side) (h : Sending) (id : ℕ) → id < w.first → Stands w h → Stands w (acked h id)
-unfolding Stands acked
+pub stands_acked_before : (w : Kept) (h : Sending) (id : ℕ) → id < w.first → IsKeptOf w h → IsKeptOf w (acked h id)
+unfolding acked
 stands_acked_before w h id below s =
-    subst (λ (ps : List Offered). Stands w (record h { pieces = ps })) (sym (ack_before h.pieces id (omega (arith, s.first)))) s
+    subst (λ (ps : List Offered). IsKeptOf w (record h { pieces = ps })) (sym (ack_before h.pieces id (omega (arith, s.first)))) s
 
 -- the kept pieces and their first id after an acknowledgement of a piece from the first on
 kept_acked : (t first : ℕ) (pieces : List KeptPiece) (ps : List Offered) (id : ℕ) → first ≤ id → first ≡ first_unacknowledged ps →
@@ -81,9 +74,9 @@ kept_acked : (t first : ℕ) (pieces : List KeptPiece) (ps : List Offered) (id :
     alter mark (id - first) pieces ≡ map (seen t) (acknowledge (id - first_unacknowledged ps) (drop (first_unacknowledged ps) ps))
 kept_acked t first pieces ps id from is kept = rw (is, kept) (sym (acknowledge_seen t (id - first_unacknowledged ps) (drop (first_unacknowledged ps) ps)))
 
-pub stands_acked : (w : Side) (h : Sending) (id : ℕ) (marked : List KeptPiece) → marked ≡ alter mark (id - w.first) w.pieces → w.first ≤ id → Stands w h →
-    Stands (record w { first = w.first + leading marked; pieces = drop (leading marked) marked }) (acked h id)
-unfolding Stands acked
+pub stands_acked : (w : Kept) (h : Sending) (id : ℕ) (marked : List KeptPiece) → marked ≡ alter mark (id - w.first) w.pieces → w.first ≤ id → IsKeptOf w h →
+    IsKeptOf (record w { first = w.first + leading marked; pieces = drop (leading marked) marked }) (acked h id)
+unfolding acked
 stands_acked w h id marked is from s =
     let t = h.timeout in
     let n = first_unacknowledged h.pieces in
@@ -109,9 +102,9 @@ stands_acked w h id marked is from s =
     }
 
 -- a sending of a piece in the window
-pub stands_sent : (w : Side) (h : Sending) (id : ℕ) (now : Moment) → w.first ≤ id → id < w.first + 6 → Stands w h →
-    Stands (record w { pieces = alter (count_one w.timeout now) (id - w.first) w.pieces }) (sent h id now.0)
-unfolding Stands sent
+pub stands_sent : (w : Kept) (h : Sending) (id : ℕ) (now : Moment) → w.first ≤ id → id < w.first + 6 → IsKeptOf w h →
+    IsKeptOf (record w { pieces = alter (count_one w.timeout now) (id - w.first) w.pieces }) (sent h id now.0)
+unfolding sent
 stands_sent w h id now from below s =
     let t = h.timeout in
     let n = first_unacknowledged h.pieces in
@@ -135,20 +128,20 @@ stands_sent w h id now from below s =
     }
 
 -- what is found in the window has an id in it
-within_window : (w : Side) (id : ℕ) (now : Moment) → is_among id (found (Unsent w.started) w.first (take 6 w.pieces)) || is_among id (found (Due now) w.first (take 6 w.pieces)) ≡ true →
+within_window : (w : Kept) (id : ℕ) (now : Moment) → is_among id (found (Unsent w.started) w.first (take 6 w.pieces)) || is_among id (found (Due now) w.first (take 6 w.pieces)) ≡ true →
     (w.first ≤ id) × (id < w.first + 6)
 within_window w id now e =
     let within = either_within (Unsent w.started) (Due now) w.first id (take 6 w.pieces) e in
     let few = length-take 6 w.pieces in (within.0, omega (arith, within.1, few))
 
-counted_when : (b : Bool) (w : Side) (h : Sending) (id : ℕ) (now : Moment) → (b ≡ true → (w.first ≤ id) × (id < w.first + 6)) → Stands w h →
-    Stands (record w { pieces = cond b (alter (count_one w.timeout now) (id - w.first) w.pieces) w.pieces }) (cond b (sent h id now.0) h)
+counted_when : (b : Bool) (w : Kept) (h : Sending) (id : ℕ) (now : Moment) → (b ≡ true → (w.first ≤ id) × (id < w.first + 6)) → IsKeptOf w h →
+    IsKeptOf (record w { pieces = cond b (alter (count_one w.timeout now) (id - w.first) w.pieces) w.pieces }) (cond b (sent h id now.0) h)
 counted_when true w h id now within s = let k = within refl in stands_sent w h id now k.0 k.1 s
 counted_when false w h id now within s = s
 
 -- counting a piece
-pub stands_counted : (w : Side) (h : Sending) (id : ℕ) (now : Moment) → Stands w h →
-    Stands (record w { pieces = counted_pieces w.started w.first w.timeout id now w.pieces }) (counted h id now.0)
+pub stands_counted : (w : Kept) (h : Sending) (id : ℕ) (now : Moment) → IsKeptOf w h →
+    IsKeptOf (record w { pieces = counted_pieces w.started w.first w.timeout id now w.pieces }) (counted h id now.0)
 unfolding counted_pieces counted
 stands_counted w h id now s =
     rw (← ready_is w h s, ← due_is w h now s)
@@ -179,9 +172,9 @@ counted_due h id now e = rw (or_right (is_among id (ready h)) (is_among id (due 
 -- ---- offering
 
 -- the new pieces come last
-pub stands_offered : (w : Side) (h : Sending) (bytes : List ℕ) (made : List KeptPiece) → made ≡ map fresh (cut bytes) → Stands w h →
-    Stands (record w { pieces = w.pieces ++ made }) (offered h bytes)
-unfolding Stands offered
+pub stands_offered : (w : Kept) (h : Sending) (bytes : List ℕ) (made : List KeptPiece) → made ≡ map fresh (cut bytes) → IsKeptOf w h →
+    IsKeptOf (record w { pieces = w.pieces ++ made }) (offered h bytes)
+unfolding offered
 stands_offered w h bytes made is s =
     let t = h.timeout in
     let n = first_unacknowledged h.pieces in
@@ -205,9 +198,9 @@ stands_offered w h bytes made is s =
     }
 
 -- whether there is room, by what is kept
-pub full_is : (w : Side) (h : Sending) (bytes : List ℕ) → Stands w h →
+pub full_is : (w : Kept) (h : Sending) (bytes : List ℕ) → IsKeptOf w h →
     is_full h bytes ≡ ltb 65536 (waiting w.pieces + length bytes) || ltb (2 ^ 32) (w.first + length w.pieces + length (cut bytes))
-unfolding Stands is_full
+unfolding is_full
 full_is w h bytes s =
     let n = first_unacknowledged h.pieces in
     let rest = drop n h.pieces in
@@ -217,16 +210,16 @@ full_is w h bytes s =
     let count : length h.pieces ≡ n + length (map (seen h.timeout) rest) = rw (length-map rest (seen h.timeout)) (omega (arith, short, few)) in
     rw (s.pieces, s.first, bytes_so, ← count) refl
 
-pub full_by_bytes : (w : Side) (h : Sending) (bytes : List ℕ) → Stands w h → 65536 < waiting w.pieces + length bytes → is_full h bytes ≡ true
+pub full_by_bytes : (w : Kept) (h : Sending) (bytes : List ℕ) → IsKeptOf w h → 65536 < waiting w.pieces + length bytes → is_full h bytes ≡ true
 full_by_bytes w h bytes s more = full_is w h bytes s ∙ or_left (ltb 65536 (waiting w.pieces + length bytes)) (ltb (2 ^ 32) (w.first + length w.pieces + length (cut bytes))) (grind arith)
 
-pub full_by_ids : (w : Side) (h : Sending) (bytes : List ℕ) → Stands w h → 2 ^ 32 < w.first + length w.pieces + length (cut bytes) → is_full h bytes ≡ true
+pub full_by_ids : (w : Kept) (h : Sending) (bytes : List ℕ) → IsKeptOf w h → 2 ^ 32 < w.first + length w.pieces + length (cut bytes) → is_full h bytes ≡ true
 full_by_ids w h bytes s more = full_is w h bytes s ∙ or_right (ltb 65536 (waiting w.pieces + length bytes)) (ltb (2 ^ 32) (w.first + length w.pieces + length (cut bytes))) (grind arith)
 
 neither : (a b : Bool) → a ≡ false → b ≡ false → a || b ≡ false
 neither true b e k = absurd cc
 neither false b e k = k
 
-pub not_full : (w : Side) (h : Sending) (bytes : List ℕ) → Stands w h → waiting w.pieces + length bytes ≤ 65536 → w.first + length w.pieces + length (cut bytes) ≤ 2 ^ 32 → is_full h bytes ≡ false
+pub not_full : (w : Kept) (h : Sending) (bytes : List ℕ) → IsKeptOf w h → waiting w.pieces + length bytes ≤ 65536 → w.first + length w.pieces + length (cut bytes) ≤ 2 ^ 32 → is_full h bytes ≡ false
 not_full w h bytes s fit ids =
     full_is w h bytes s ∙ neither (ltb 65536 (waiting w.pieces + length bytes)) (ltb (2 ^ 32) (w.first + length w.pieces + length (cut bytes))) (grind arith) (grind arith)

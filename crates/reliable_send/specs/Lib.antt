@@ -1,3 +1,4 @@
 pub mod Sending
 pub mod Sides
 pub mod Runs
+pub mod internal

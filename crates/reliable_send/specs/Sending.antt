@@ -1,6 +1,7 @@
 -- The sending side of the reliable layer: every piece that was ever offered, with the moments at which it was sent
 -- (OpenVPN network protocol, reliability layer of the control channel).
 use Rattle.std.specs.Prelude.{ℕ, zero, suc, ◌+◌, ◌-◌, ◌*◌, ◌^◌, ◌==◌, ◌&&◌, ◌||◌, nat_lt, nat_le, not, min, Bool, true, false, List, [], ◌∷◌, ◌++◌, length, take, drop, map, if◌then◌else◌}
+use Rattle.std.specs.Int.{div_ceil}
 
 -- the bytes of a piece, the moments in milliseconds at which it was sent, the latest first, and whether it was acknowledged
 pub record Offered : Type 0 where
@@ -37,6 +38,10 @@ cut_into (suc most) (b ∷ bytes) = take 1100 (b ∷ bytes) ∷ cut_into most (d
 -- bytes in as many pieces as there are
 abbrev pub cut : List ℕ → List (List ℕ)
 cut bytes = cut_into (length bytes) bytes
+
+-- how many pieces so many bytes are
+abbrev pub piece_count : ℕ → ℕ
+piece_count bytes = div_ceil bytes 1100
 
 -- how many bytes wait or are not acknowledged
 abbrev pub unacknowledged : List Offered → ℕ

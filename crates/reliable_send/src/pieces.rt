@@ -1,9 +1,11 @@
 //! The pieces that a sending side keeps, and the walks over them.
 
-ghost use Rattle.std.specs.Prelude.{◌≡◌, ◌||◌, ◌+◌, ◌^◌, ◌<◌, ◌≤◌, length, take, drop, map, All, IfOk, IfSome};
-ghost use Rattle.reliable_send.specs.Sending.{cut, unsent};
+ghost use Rattle.std.specs.Prelude.{◌≡◌, ◌||◌, ◌+◌, ◌^◌, ◌<◌, ◌≤◌, [], ◌++◌, length, take, drop, map, All, IsOk, OnOk, IfSome, vec_len, vec_capacity};
+ghost use Rattle.reliable_send.specs.Sending.{cut, piece_count, unsent};
 ghost use Rattle.reliable_send.specs.declared.pieces.Wanted.TheVariants.{Unsent, Due};
-ghost use Rattle.reliable_send.specs.Sides.{IsSmall, alter, count_one, counted_pieces, first_of, is_among, fits, found, has_passed, leading, mark, next_interval, seen, seen_piece, waiting};
+ghost use Rattle.reliable_send.specs.Sides.{first_of, is_among, seen, seen_piece};
+ghost use Rattle.reliable_send.specs.internal.Sound.{IsSmall, waiting};
+ghost use Rattle.reliable_send.specs.internal.Walks.{alter, count_one, counted_pieces, fits, found, has_passed, leading, mark, next_interval};
 
 use std::alloc::Global;
 use vpn_base::{Bytes, Moment, NoMemory};
@@ -60,25 +62,83 @@ pub fn fresh(bytes: Bytes) -> KeptPiece
     }
 }
 
-/// The pieces that bytes are cut into.
-pub fn cut_up(alloc: Global, bytes: &[u8]) -> Result<Vec<KeptPiece>, NoMemory>
-    ensures { IfOk result (λ made. made.items ≡ map (λ b. seen 0 (unsent b)) (cut bytes.now)) }
+/// Empty room for the bytes of one piece.
+#[derive(Drop)]
+pub struct Room {
+    bytes: Vec<u8>,
+    ghost empty: { bytes.items ≡ [] },
+    ghost large: { 1100 ≤ vec_capacity bytes },
+}
+
+impl Room {
+    fn make(alloc: Global) -> Result<Room, NoMemory> {
+        Ok(Room {
+            bytes: Vec::with_capacity(alloc, MOST_BYTES)?,
+        })
+    }
+
+    // The room with the bytes of a piece in it.
+    fn filled(self, piece: &[u8]) -> Bytes
+        requires { length piece.now ≤ 1100 }
+        ensures { result ≡ piece.now }
+    {
+        let mut bytes = self.bytes;
+        let added = bytes.extend_from_slice(piece);
+        prove!(added.is_ok());
+        let _ = added;
+        Bytes::of(bytes)
+    }
+}
+
+/// Makes room for so many more pieces: for their bytes, and for themselves in the list of pieces.
+pub fn make_room(
+    pieces: &mut Vec<KeptPiece>,
+    spare: &mut Vec<Room>,
+    count: usize,
+) -> Result<(), NoMemory>
+    ensures same { pieces.new.items ≡ pieces.old.items }
+    ensures len { vec_len pieces.new ≡ vec_len pieces.old }
+    ensures ok { OnOk result ((count ≤ vec_len spare.new) × (vec_len pieces.new + count ≤ vec_capacity pieces.new)) }
+    ensures grows { (vec_len spare.old ≤ vec_len spare.new) × (vec_capacity pieces.old ≤ vec_capacity pieces.new) }
+    ensures fits { count ≤ vec_len spare.old → vec_len pieces.old + count ≤ vec_capacity pieces.old → IsOk result }
 {
-    let mut made = Vec::new(alloc);
+    pieces.reserve(count)?;
+    while spare.len() < count {
+        spare.push(Room::make(*spare.allocator())?)?;
+    }
+    Ok(())
+}
+
+/// Adds the pieces that bytes are cut into, in room that is spare.
+pub fn add_pieces(pieces: &mut Vec<KeptPiece>, spare: &mut Vec<Room>, bytes: &[u8])
+    requires places { vec_len pieces.old + length (cut bytes.now) ≤ vec_capacity pieces.old }
+    requires rooms { length (cut bytes.now) ≤ vec_len spare.old }
+    ensures added { pieces.new.items ≡ pieces.old.items ++ map (λ b. seen 0 (unsent b)) (cut bytes.now) }
+    ensures capacity { vec_capacity pieces.new ≡ vec_capacity pieces.old }
+    ensures len { vec_len pieces.new ≡ vec_len pieces.old + length (cut bytes.now) }
+    ensures rooms { vec_len spare.new + length (cut bytes.now) ≡ vec_len spare.old }
+{
     let mut rest = bytes;
     while !rest.is_empty() {
         let size = rest.len().min(MOST_BYTES);
-        made.push(fresh(Bytes::copy(alloc, &rest[..size])?))?;
+        let room = spare.take_last();
+        pieces.push_reserved(fresh(room.filled(&rest[..size])));
         rest = &rest[size..];
     }
-    Ok(made)
 }
 
-/// How many pieces so many bytes are cut into.
+/// How many pieces so many bytes are.
+pub fn count_pieces(bytes: usize) -> usize
+    ensures { result ≡ piece_count bytes }
+{
+    bytes.div_ceil(MOST_BYTES)
+}
+
+/// How many pieces bytes are cut into.
 pub fn count_cut(bytes: &[u8]) -> usize
     ensures { result ≡ length (cut bytes.now) }
 {
-    bytes.len().div_ceil(MOST_BYTES)
+    count_pieces(bytes.len())
 }
 
 /// The pieces that may be in flight.
@@ -170,7 +230,8 @@ pub fn count_where(
     id: u32,
     now: Moment,
 )
-    ensures { pieces.new.items ≡ counted_pieces started first timeout id now pieces.old.items }
+    ensures counted { pieces.new.items ≡ counted_pieces started first timeout id now pieces.old.items }
+    ensures room { (vec_len pieces.new ≡ vec_len pieces.old) × (vec_capacity pieces.new ≡ vec_capacity pieces.old) }
 {
     let id = u64::from(id);
     if goes_out(window(pieces), first, started, id, now) {
@@ -181,7 +242,8 @@ pub fn count_where(
 // Counts the piece at a place as sent once more.
 fn count_at(pieces: &mut Vec<KeptPiece>, place: usize, timeout: u32, now: Moment)
     requires { place < length pieces.old.items }
-    ensures { pieces.new.items ≡ alter (count_one timeout now) place pieces.old.items }
+    ensures counted { pieces.new.items ≡ alter (count_one timeout now) place pieces.old.items }
+    ensures room { (vec_len pieces.new ≡ vec_len pieces.old) × (vec_capacity pieces.new ≡ vec_capacity pieces.old) }
 {
     let piece = &mut pieces[place];
     piece.interval = interval_after(timeout, piece.last, piece.interval);
@@ -190,7 +252,8 @@ fn count_at(pieces: &mut Vec<KeptPiece>, place: usize, timeout: u32, now: Moment
 
 /// Marks the piece at a place as acknowledged, if there is one and it was sent.
 pub fn mark_at(pieces: &mut Vec<KeptPiece>, place: u64)
-    ensures { pieces.new.items ≡ alter mark place pieces.old.items }
+    ensures marked { pieces.new.items ≡ alter mark place pieces.old.items }
+    ensures room { (vec_len pieces.new ≡ vec_len pieces.old) × (vec_capacity pieces.new ≡ vec_capacity pieces.old) }
 {
     if place < pieces.len() as u64 {
         let piece = &mut pieces[place as usize];
@@ -204,6 +267,7 @@ pub fn mark_at(pieces: &mut Vec<KeptPiece>, place: u64)
 pub fn drop_acknowledged(pieces: &mut Vec<KeptPiece>) -> u64
     ensures count { result ≡ leading pieces.old.items }
     ensures rest { pieces.new.items ≡ drop (leading pieces.old.items) pieces.old.items }
+    ensures room { (vec_len pieces.new ≤ vec_len pieces.old) × (vec_capacity pieces.new ≡ vec_capacity pieces.old) }
 {
     let mut count = 0;
     while !pieces.is_empty() && pieces[0].acknowledged {

@@ -1,13 +1,13 @@
 //! The sending side.
 
-ghost use Rattle.std.specs.Prelude.{◌≡◌, ℕ, ◌≤◌, length, true, false, IfOk, IfErr, OnOk, OnErr, IfSome};
-ghost use Rattle.reliable_send.specs.Sending.{Sending, Numbered, begun, peer_started, is_full, offered, acked, ready, due, sent};
+ghost use Rattle.std.specs.Prelude.{◌≡◌, ℕ, ◌+◌, ◌≤◌, List, length, true, false, IsOk, IfOk, IfErr, OnOk, OnErr, IfSome};
 ghost use Rattle.vpn_base.specs.Answers.{IfWhy};
-ghost use Rattle.reliable_send.specs.Sides.{Stands, counted, first_id, first_of, seen_piece};
+ghost use Rattle.reliable_send.specs.Sending.{Sending, Numbered, begun, peer_started, cut, piece_count, is_full, offered, acked, ready, due, sent};
+ghost use Rattle.reliable_send.specs.Sides.{IsNotMemory, Stands, counted, first_id, first_of, seen_piece};
 
 use crate::pieces::{
-    KeptPiece, Piece, Wanted, count_cut, count_found, count_waiting, count_where, cut_up,
-    drop_acknowledged, find_first, fresh, mark_at, window,
+    KeptPiece, Piece, Room, Wanted, add_pieces, count_cut, count_found, count_pieces,
+    count_waiting, count_where, drop_acknowledged, find_first, fresh, make_room, mark_at, window,
 };
 use std::alloc::Global;
 use std::marker::Model;
@@ -25,21 +25,28 @@ pub struct TextFull;
 
 /// The sending side of a key session's reliable layer (OpenVPN network protocol, reliability layer of
 /// the control channel). It forgets pieces that are acknowledged with all before them; its contract is
-/// over every piece that was ever offered.
+/// over every piece that was ever offered. Beside that contracts see how many more pieces there is room
+/// for.
 #[derive(Drop)]
 pub struct SendSide {
     timeout: u32,
     started: bool,
     first: u64,
     pieces: Vec<KeptPiece>,
+    spare: Vec<Room>,
 }
 
 impl Model for SendSide {
-    ghost use Rattle.reliable_send.specs.Sides.{Side, IsSound};
+    ghost use Rattle.std.specs.Prelude.{◌-◌, min, vec_len, vec_capacity};
+    ghost use Rattle.reliable_send.specs.Sides.{Side};
+    ghost use Rattle.reliable_send.specs.internal.Sound.{IsSound};
 
     ghost Value = { Side };
 
-    ghost view = { λ s. record { timeout = s.timeout; started = s.started; first = s.first; pieces = s.pieces.items } };
+    ghost view = { λ s. record {
+      kept = record { timeout = s.timeout; started = s.started; first = s.first; pieces = s.pieces.items };
+      spare = min (vec_len s.spare) (vec_capacity s.pieces - vec_len s.pieces);
+    } };
 
     ghost invariant = { λ s. IsSound s.timeout s.first s.pieces.items };
 }
@@ -59,39 +66,60 @@ impl SendSide {
             started: false,
             first: 0,
             pieces,
+            spare: Vec::new(alloc),
         })
+    }
+
+    /// Takes the room for an offer of at most so many bytes. It is Ok where that room is there.
+    pub fn reserve(&mut self, bytes: usize) -> Result<(), NoMemory>
+        ensures same { self.new.kept ≡ self.old.kept }
+        ensures stands { (h : Sending) → Stands self.old h → Stands self.new h }
+        ensures ok { OnOk result (piece_count bytes ≤ self.new.spare) }
+        ensures enough { OnOk result ((text : List ℕ) → length text ≤ bytes → length (cut text) ≤ self.new.spare) }
+        ensures grows { self.old.spare ≤ self.new.spare }
+        ensures fits { piece_count bytes ≤ self.old.spare → IsOk result }
+    {
+        make_room(&mut self.pieces, &mut self.spare, count_pieces(bytes))
     }
 
     /// The peer's packet 0 is here, so that pieces behind piece 0 may be sent.
     pub fn peer_started(&mut self)
-        ensures { (h : Sending) → Stands self.old h → Stands self.new (peer_started h) }
+        ensures stands { (h : Sending) → Stands self.old h → Stands self.new (peer_started h) }
+        ensures spare { self.old.spare ≤ self.new.spare }
     {
         self.started = true;
     }
 
     /// Adds bytes in pieces of 1,100, the last one of what is left. TextFull comes exactly where more
-    /// than 65,536 bytes would wait or not be acknowledged, or an id would pass 0xFFFFFFFF.
+    /// than 65,536 bytes would wait or not be acknowledged, or an id would pass 0xFFFFFFFF. It takes no
+    /// memory where there is room for the pieces.
     pub fn offer(&mut self, bytes: &[u8]) -> Result<(), Or<TextFull>>
         ensures ok { OnOk result ((h : Sending) → Stands self.old h
             → (is_full h bytes.now ≡ false) × Stands self.new (offered h bytes.now)) }
         ensures full { IfErr result (λ e. IfWhy e (λ _. (h : Sending) → Stands self.old h
             → is_full h bytes.now ≡ true)) }
-        ensures err { OnErr result (self.new ≡ self.old) }
+        ensures err { OnErr result (self.new.kept ≡ self.old.kept) }
+        ensures unchanged { OnErr result ((h : Sending) → Stands self.old h → Stands self.new h) }
+        ensures fits { length (cut bytes.now) ≤ self.old.spare → IsNotMemory result }
+        ensures spare { self.old.spare ≤ self.new.spare + length (cut bytes.now) }
+        ensures untouched { OnErr result (self.old.spare ≤ self.new.spare) }
     {
         if MOST_WAITING < count_waiting(&self.pieces) + bytes.len() {
             return Err(Or::Why(TextFull));
         }
-        if IDS < self.first + self.pieces.len() as u64 + count_cut(bytes) as u64 {
+        let count = count_cut(bytes);
+        if IDS < self.first + self.pieces.len() as u64 + count as u64 {
             return Err(Or::Why(TextFull));
         }
-        let mut made = cut_up(*self.pieces.allocator(), bytes)?;
-        self.pieces.append(&mut made)?;
+        make_room(&mut self.pieces, &mut self.spare, count)?;
+        add_pieces(&mut self.pieces, &mut self.spare, bytes);
         Ok(())
     }
 
     /// A piece was acknowledged. One that was not sent, or was never offered, changes nothing.
     pub fn acked(&mut self, id: u32)
-        ensures { (h : Sending) → Stands self.old h → Stands self.new (acked h id) }
+        ensures stands { (h : Sending) → Stands self.old h → Stands self.new (acked h id) }
+        ensures spare { self.old.spare ≤ self.new.spare }
     {
         let Some(place) = u64::from(id).checked_sub(self.first) else {
             return;
@@ -149,6 +177,7 @@ impl SendSide {
         ensures exact { (h : Sending) → Stands self.old h → Stands self.new (counted h id now.0) }
         ensures next { (h : Sending) → Stands self.old h → first_id (ready h) ≡ Some id → Stands self.new (sent h id now.0) }
         ensures again { (h : Sending) → Stands self.old h → first_id (due h now.0) ≡ Some id → Stands self.new (sent h id now.0) }
+        ensures spare { self.old.spare ≤ self.new.spare }
     {
         count_where(
             &mut self.pieces,

@@ -4,7 +4,7 @@ use Rattle.std.specs.Prelude.{cond}
 use Rattle.std.specs.List.{slice_split, onto_first, join_with_byte}
 use Rattle.std.proofs.lemmas.List.Splits.{length-slice_split, join_with_byte-slice_split}
 use Rattle.vpn_base.specs.Lines.{lines_of_parts, lines_of}
-use Rattle.route_file.specs.Progress.{IsOneLine}
+use Rattle.route_file.specs.internal.Within.{IsOneLine}
 
 -- a text has a part
 pub has_part : (p : ℕ → Bool) (text : List ℕ) → 0 < length (slice_split p text)

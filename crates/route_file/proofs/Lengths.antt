@@ -6,7 +6,8 @@ use Rattle.schedule_text.specs.declared.kind.TextKind.TheVariants as kinds
 use Rattle.schedule_text.specs.RouteLine.{route_line, longest_line}
 use Rattle.vpn_base.specs.Lines.{Line, lines_of, lines_of_parts, content, size}
 use Rattle.route_file.specs.Output.{judged, longest_file}
-use Rattle.route_file.specs.Progress.{Progress, outcome_with, IsOneLine, Ends}
+use Rattle.route_file.specs.Progress.{Progress, outcome_with, Ends}
+use Rattle.route_file.specs.internal.Within.{IsOneLine}
 use Rattle.route_file.proofs.Cuts.{split_append, has_part, one_line_append}
 use Rattle.route_file.proofs.Steps.{refused_at, past_limit}
 

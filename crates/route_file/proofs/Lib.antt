@@ -2,4 +2,3 @@ pub mod Steps
 pub mod Cuts
 pub mod Readings
 pub mod Lengths
-pub mod Unsealing

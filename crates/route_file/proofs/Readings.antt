@@ -7,19 +7,20 @@ use Rattle.schedule_text.specs.declared.kind.TextKind.{TextKind}
 use Rattle.route_file.specs.declared.state.RouteFault.{RouteFault}
 use Rattle.vpn_base.specs.Lines.{Line, lines_of}
 use Rattle.route_file.specs.Output.{Outcome, outcome_from, printed_before, empty_table, routes}
-use Rattle.route_file.specs.Progress.{Progress, outcome_of, outcome_with, IsOneLine, Ends, Refuses}
+use Rattle.route_file.specs.Progress.{Progress, outcome_of, outcome_with, Ends}
+use Rattle.route_file.specs.internal.Within.{IsOneLine, Faults}
 use Rattle.route_file.proofs.Cuts.{lines_ended, lines_last, lines_none}
 
 pub on_ok : {A E P Q : Type 0} (r : Result A E) → (P → Q) → OnOk r P → OnOk r Q
 on_ok (Ok x) f h = f h
 on_ok (Err e) f h = tt
 
-refuses : (P Q : ℕ → TextKind → Type 0) (e : Or RouteFault) → ((line : ℕ) (kind : TextKind) → P line kind → Q line kind) → Refuses e P → Refuses e Q
+refuses : (P Q : ℕ → TextKind → Type 0) (e : Or RouteFault) → ((line : ℕ) (kind : TextKind) → P line kind → Q line kind) → Faults e P → Faults e Q
 refuses P Q Memory f h = tt
 refuses P Q (Why fault) f h = f fault.line fault.kind h
 
 pub if_refused : {A : Type 0} (P Q : ℕ → TextKind → Type 0) (r : Result A (Or RouteFault)) → ((line : ℕ) (kind : TextKind) → P line kind → Q line kind) →
-    IfErr r (λ e. Refuses e P) → IfErr r (λ e. Refuses e Q)
+    IfErr r (λ e. Faults e P) → IfErr r (λ e. Faults e Q)
 if_refused P Q (Ok x) f h = tt
 if_refused P Q (Err e) f h = refuses P Q e f h
 

@@ -1,6 +1,5 @@
 pub mod Keys
-pub mod Opening
 pub mod Seals
 pub mod Output
 pub mod Progress
-pub mod State
+pub mod internal

@@ -53,7 +53,12 @@ answer t (lines.From cid packet) = verdict_text (verdict t.rows t.subnet t.betwe
 answer t (lines.Device packet) = verdict_text (verdict t.rows t.subnet t.between None packet) ++ 10 ∷ []
 answer t (lines.Seal cid kid id inner) = seal_text (key_at t.keys cid.0 kid) cid.0 kid id inner ++ 10 ∷ []
 answer t (lines.Unseal cid kid datagram) = unseal_text (key_at t.keys cid.0 kid) cid.0 kid datagram ++ 10 ∷ []
-answer t _ = []
+answer t lines.Blank = []
+answer t (lines.Subnet network) = []
+answer t lines.Between = []
+answer t (lines.Add network cid) = []
+answer t (lines.Leave cid) = []
+answer t (lines.Key cid kid cipher key iv) = []
 
 -- what a line sets up
 abbrev pub after : Table → RouteLine → Table
@@ -62,7 +67,12 @@ after t lines.Between = record t { between = true }
 after t (lines.Add network cid) = record t { rows = t.rows ++ (network, cid) ∷ [] }
 after t (lines.Leave cid) = record t { rows = without t.rows cid }
 after t (lines.Key cid kid cipher key iv) = record t { keys = with_key t.keys (record { cid = cid.0; kid = kid; key = key; iv = iv }) }
-after t _ = t
+after t lines.Blank = t
+after t (lines.Owner a) = t
+after t (lines.From cid packet) = t
+after t (lines.Device packet) = t
+after t (lines.Seal cid kid id inner) = t
+after t (lines.Unseal cid kid datagram) = t
 
 -- what is printed, and the first faulty line with its fault
 pub record Outcome : Type 0 where

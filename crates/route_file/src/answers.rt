@@ -139,7 +139,6 @@ pub(crate) fn print_unsealed(
     kid: u8,
     datagram: &[u8],
 ) -> Result<(), NoMemory>
-    requires cid { cid.0 < 2 ^ 24 }
     requires kid { kid < 8 }
     requires short { length datagram.now ≤ 1524 }
     ensures { OnOk result (string_bytes text.new ≡ string_bytes text.old
@@ -153,6 +152,6 @@ pub(crate) fn print_unsealed(
         text.push_str("malformed\n")?;
         return Ok(());
     };
-    let found = key.open(alloc, kid, cid.0 as u32, datagram, view)?;
+    let found = key.open(alloc, kid, cid, view.peer, datagram)?;
     print_opened(alloc, text, found)
 }

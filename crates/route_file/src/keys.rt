@@ -1,17 +1,15 @@
 //! The keys of clients' data packets.
 
-ghost use Rattle.std.specs.Prelude.{◌≡◌, ◌↔◌, not, ◌+◌, ◌<◌, ◌≤◌, ◌^◌, ℕ, List, length, Some, IfOk};
+ghost use Rattle.std.specs.Prelude.{◌≡◌, not, ◌<◌, ◌≤◌, ◌^◌, length, IfOk};
 ghost use Rattle.std.specs.Option.{option_copied};
 ghost use Rattle.gcm_seal.specs.Gcm.{gcm};
 ghost use Rattle.gcm_seal.specs.AnyGcm.{key_of};
-ghost use Rattle.opcode_codec.specs.DataPacket.{DataForm, IsData, data_form, data_packet};
 ghost use Rattle.schedule_text.specs.SealLines.{key_length};
-ghost use Rattle.sealed_packet.specs.SealedPacket.{Opens, packet, peer_in};
+ghost use Rattle.sealed_packet.specs.SealedPacket.{packet};
 ghost use Rattle.route_file.specs.Keys.{is_named, key_at, other_keys};
-ghost use Rattle.route_file.specs.Opening.{opened};
+ghost use Rattle.route_file.specs.Seals.{opened_for};
 
 use gcm_seal::{AnyGcm, Gcm128, Gcm256, NotSealed};
-use opcode_codec::DataView;
 use sealed_packet::{open_packet, seal_packet};
 use std::alloc::Global;
 use std::marker::Model;
@@ -98,25 +96,22 @@ impl Key {
         Ok(Bytes::of(out))
     }
 
-    /// What a data packet opens to, its packet id and its inner packet, where it has this key id
-    /// and this peer id and is authentic.
+    /// What a data packet with this peer id opens to, its packet id and its inner packet, where it is
+    /// this client's and is authentic under this key id.
     pub(crate) fn open(
         &self,
         alloc: Global,
         kid: u8,
+        cid: Cid,
         peer: u32,
         datagram: &[u8],
-        view: DataView<'_>,
     ) -> Result<Option<(u32, Bytes)>, NoMemory>
         requires kid { kid < 8 }
-        requires peer { peer < 2 ^ 24 }
         requires long { 24 ≤ length datagram.now }
         requires short { length datagram.now ≤ 65536 }
-        requires fits { IsData (data_form view) }
-        requires spelled { datagram.now ≡ data_packet (data_form view) }
-        ensures { IfOk result (λ found. found ≡ opened self.now.key self.now.iv kid peer (data_form view.entry)) }
+        ensures { IfOk result (λ found. found ≡ opened_for self.now cid.0 kid peer datagram.now) }
     {
-        if view.peer != peer {
+        if u64::from(peer) != cid.0 {
             return Ok(None);
         }
         let mut bytes = Vec::from_slice(alloc, datagram)?;
@@ -158,11 +153,3 @@ pub(crate) fn drop_key(keys: &mut Vec<Key>, cid: Cid, kid: u8)
         { !key.is_for(cid, kid) },
     );
 }
-
-/// What a packet that is opened as `opened` says is: exactly what opens under the key, for its
-/// peer id.
-pub fn opened_is_what_opens()
-    ensures { (key implicit : List ℕ) (kid peer : ℕ) (f : DataForm) (id : ℕ) (inner : List ℕ) → peer < 2 ^ 24 → IsData f →
-        (opened key implicit kid peer f ≡ Some (id, inner))
-        ↔ (Opens (gcm key) implicit kid (data_packet f) id inner × (peer_in (data_packet f) ≡ peer)) }
-{}

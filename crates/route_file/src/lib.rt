@@ -6,6 +6,5 @@ mod keys;
 mod reader;
 mod state;
 
-pub use keys::opened_is_what_opens;
-pub use reader::RouteReader;
+pub use reader::{Refused, RouteReader};
 pub use state::{LONGEST_FILE, RouteFault};

@@ -1,14 +1,25 @@
 //! The reader of a route file that comes in pieces.
 
-ghost use Rattle.std.specs.Prelude.{◌≡◌, ◌+◌, ◌≤◌, ◌^◌, ◌<◌, [], ◌∷◌, ◌++◌, List, ℕ, length, Some, None, OnOk, IfErr, MatchOption};
+ghost use Rattle.std.specs.Prelude.{◌≡◌, ◌+◌, ◌≤◌, ◌^◌, ◌<◌, [], ◌∷◌, ◌++◌, List, ℕ, length, Some, None, OnOk, IfOk, IfErr, MatchOption};
+ghost use Rattle.std.specs.String.{string_bytes};
 ghost use Rattle.route_file.specs.Output.{empty_table, printed_before, routes};
-ghost use Rattle.route_file.specs.Progress.{outcome_with, IsOneLine, Ends, Refuses};
+ghost use Rattle.route_file.specs.Progress.{outcome_with, Ends, Refuses};
+ghost use Rattle.route_file.specs.internal.Within.{Faults, IsOneLine};
 
 use crate::state::{LONGEST_FILE, RouteFault, State};
 use schedule_text::{LONGEST_LINE, TextKind};
 use std::alloc::Global;
 use std::marker::Model;
 use vpn_base::{Or, split_once};
+
+/// A faulty line of a route file, and what was printed before it and not taken yet.
+#[derive(Drop)]
+pub struct Refused {
+    /// What was printed.
+    pub printed: String,
+    /// The line and its fault.
+    pub fault: RouteFault,
+}
 
 /// Reads a route file in pieces of any size, and holds what its lines have printed. Contracts see
 /// how far it has come.
@@ -19,11 +30,12 @@ pub struct RouteReader {
 }
 
 impl Model for RouteReader {
-    ghost use Rattle.route_file.specs.Progress.{Progress, IsWithin};
+    ghost use Rattle.route_file.specs.Progress.{Progress};
+    ghost use Rattle.route_file.specs.internal.Within.{IsWithin};
 
     ghost Value = { Progress };
 
-    ghost use Rattle.route_file.specs.State.{progress_of};
+    ghost use Rattle.route_file.specs.internal.State.{progress_of};
 
     ghost view = { λ r. progress_of r.state r.kept.items };
 
@@ -76,7 +88,7 @@ impl RouteReader {
         requires { IsOneLine end.now }
         ensures ok { OnOk result ((more : List ℕ) → outcome_with self.old (end.now ++ 10 ∷ more) ≡ outcome_with self.new more) }
         ensures fed { OnOk result (self.new.bytes + length self.new.kept ≡ self.old.bytes + length self.old.kept + length end.now + 1) }
-        ensures refused { IfErr result (λ e. Refuses e (λ line kind. (more : List ℕ) →
+        ensures refused { IfErr result (λ e. Faults e (λ line kind. (more : List ℕ) →
             Ends (outcome_with self.old (end.now ++ 10 ∷ more)) self.new.printed (Some (line, kind)))) }
     {
         let Ok(()) = self.kept.extend_from_slice(end) else {
@@ -94,7 +106,7 @@ impl RouteReader {
         ensures ok { OnOk result ((more : List ℕ) → outcome_with self.old (front.now ++ more) ≡ outcome_with self.new more) }
         ensures fed { OnOk result (self.new.bytes + length self.new.kept ≡ self.old.bytes + length self.old.kept + length front.now) }
         ensures small { OnOk result (self.new.bytes + length self.new.kept ≤ 2 ^ 40) }
-        ensures refused { IfErr result (λ e. Refuses e (λ line kind. (more : List ℕ) →
+        ensures refused { IfErr result (λ e. Faults e (λ line kind. (more : List ℕ) →
             Ends (outcome_with self.old (front.now ++ more)) self.new.printed (Some (line, kind)))) }
     {
         let long = self.kept.len() + front.len() > LONGEST_LINE + 1;
@@ -108,14 +120,12 @@ impl RouteReader {
         Ok(())
     }
 
-    /// Reads the next piece of the file: each line that ends in it is judged and prints what it
-    /// prints. The first faulty line is refused; the file is not read further then. After want of
-    /// memory the reader has read a part of the piece, and is of no further use.
-    pub fn feed(&mut self, alloc: Global, piece: &[u8]) -> Result<(), Or<RouteFault>>
+    // Reads the next piece of the file in place.
+    fn read(&mut self, alloc: Global, piece: &[u8]) -> Result<(), Or<RouteFault>>
         ensures ok { OnOk result ((more : List ℕ) → outcome_with self.old (piece.now ++ more) ≡ outcome_with self.new more) }
         ensures fed { OnOk result (self.new.bytes + length self.new.kept ≡ self.old.bytes + length self.old.kept + length piece.now) }
         ensures small { OnOk result (self.new.bytes + length self.new.kept ≤ 2 ^ 40) }
-        ensures refused { IfErr result (λ e. Refuses e (λ line kind. (more : List ℕ) →
+        ensures refused { IfErr result (λ e. Faults e (λ line kind. (more : List ℕ) →
             Ends (outcome_with self.old (piece.now ++ more)) self.new.printed (Some (line, kind)))) }
     {
         let mut rest = piece;
@@ -128,10 +138,10 @@ impl RouteReader {
         self.keep(rest)
     }
 
-    /// Reads the last line, where no line feed ends it. The file is then read whole.
-    pub fn finish(&mut self, alloc: Global) -> Result<(), Or<RouteFault>>
+    // Reads the last line in place, where no line feed ends it.
+    fn read_last(&mut self, alloc: Global) -> Result<(), Or<RouteFault>>
         ensures ok { OnOk result (Ends (outcome_with self.old []) self.new.printed None) }
-        ensures refused { IfErr result (λ e. Refuses e (λ line kind.
+        ensures refused { IfErr result (λ e. Faults e (λ line kind.
             Ends (outcome_with self.old []) self.new.printed (Some (line, kind)))) }
     {
         if self.kept.is_empty() {
@@ -140,5 +150,49 @@ impl RouteReader {
         let taken = self.state.take_line(alloc, self.kept.as_slice(), false);
         self.kept.clear();
         taken
+    }
+
+    // What its lines have printed since it was cleared, which is all that is left of it.
+    fn into_printed(self) -> String
+        ensures { string_bytes result ≡ self.printed }
+    {
+        self.state.text
+    }
+
+    /// Reads the next piece of the file: each line that ends in it is judged and prints what it
+    /// prints. The first faulty line is refused, with what was printed before it; after that and
+    /// after want of memory there is no reader any more.
+    pub fn feed(mut self, alloc: Global, piece: &[u8]) -> Result<RouteReader, Or<Refused>>
+        ensures ok { IfOk result (λ reader. (more : List ℕ) → outcome_with self (piece.now ++ more) ≡ outcome_with reader more) }
+        ensures fed { IfOk result (λ reader. reader.bytes + length reader.kept ≡ self.bytes + length self.kept + length piece.now) }
+        ensures small { IfOk result (λ reader. reader.bytes + length reader.kept ≤ 2 ^ 40) }
+        ensures refused { IfErr result (λ e. Refuses e (λ text line kind. (more : List ℕ) →
+            Ends (outcome_with self (piece.now ++ more)) text (Some (line, kind)))) }
+    {
+        match self.read(alloc, piece) {
+            Ok(()) => Ok(self),
+            Err(Or::Memory) => Err(Or::Memory),
+            Err(Or::Why(fault)) => Err(Or::Why(Refused {
+                printed: self.into_printed(),
+                fault,
+            })),
+        }
+    }
+
+    /// Reads the last line, where no line feed ends it, and answers what was printed and not taken
+    /// yet: the file is then read whole. A faulty line is refused, with what was printed before it.
+    pub fn finish(mut self, alloc: Global) -> Result<String, Or<Refused>>
+        ensures ok { IfOk result (λ text. Ends (outcome_with self []) (string_bytes text) None) }
+        ensures refused { IfErr result (λ e. Refuses e (λ text line kind.
+            Ends (outcome_with self []) text (Some (line, kind)))) }
+    {
+        match self.read_last(alloc) {
+            Ok(()) => Ok(self.into_printed()),
+            Err(Or::Memory) => Err(Or::Memory),
+            Err(Or::Why(fault)) => Err(Or::Why(Refused {
+                printed: self.into_printed(),
+                fault,
+            })),
+        }
     }
 }

@@ -7,7 +7,8 @@ ghost use Rattle.inner_verdict.specs.Verdict.{verdict};
 ghost use Rattle.schedule_text.specs.SealLines.{IsBounded};
 ghost use Rattle.vpn_base.specs.Lines.{Line, content, size};
 ghost use Rattle.route_file.specs.Output.{after, answer, verdict_text};
-ghost use Rattle.route_file.specs.Progress.{Ends, Refuses};
+ghost use Rattle.route_file.specs.Progress.{Ends};
+ghost use Rattle.route_file.specs.internal.Within.{Faults};
 
 use crate::answers::{print_owner, print_sealed, print_unsealed, print_verdict};
 use crate::keys::{Key, drop_key, find_key};
@@ -48,7 +49,7 @@ fn owner_of<L: Ledger>(blank: Blank, table: &RouteTable, a: Ip4) -> Option<Cid>
     requires name { blank.name ≡ L.name }
     requires parts { blank.parts ≡ L.parts }
     requires some { 0 < L.parts }
-    ensures { result ≡ owner table.now a }
+    ensures { result ≡ owner table.now.rows a }
 {
     let mut steps = Steps::<L>::from_blank(blank);
     table.owner(a, &mut steps)
@@ -65,7 +66,7 @@ fn verdict_of<L: Ledger>(
     requires name { blank.name ≡ L.name }
     requires parts { blank.parts ≡ L.parts }
     requires some { 0 < L.parts }
-    ensures { result ≡ verdict table.now subnet between sender packet.now }
+    ensures { result ≡ verdict table.now.rows subnet between sender packet.now }
 {
     let mut steps = Steps::<L>::from_blank(blank);
     verdict_on(table, subnet, between, sender, packet, &mut steps)
@@ -93,11 +94,11 @@ fn line_size(body: &[u8], ended: bool) -> u64
 }
 
 impl State {
-    ghost use Rattle.route_file.specs.State.{progress_of, outcome_behind};
+    ghost use Rattle.route_file.specs.internal.State.{progress_of, outcome_behind};
 
     /// Nothing yet.
     pub(crate) fn new(alloc: Global) -> State
-        ensures table { result.table ≡ [] }
+        ensures table { result.table.rows ≡ [] }
         ensures subnet { result.subnet ≡ None }
         ensures between { result.between ≡ false }
         ensures keys { result.keys.items ≡ [] }
@@ -123,7 +124,7 @@ impl State {
     // Where a packet goes that comes from this client, or from the device.
     fn print_verdict_on(&mut self, sender: Option<Cid>, packet: &[u8]) -> Result<(), NoMemory>
         ensures printed { OnOk result (string_bytes self.new.text ≡ string_bytes self.old.text
-            ++ (verdict_text (verdict self.old.table self.old.subnet self.old.between sender packet.now) ++ 10 ∷ [])) }
+            ++ (verdict_text (verdict self.old.table.rows self.old.subnet self.old.between sender packet.now) ++ 10 ∷ [])) }
         ensures table { (progress_of self.new []).table ≡ (progress_of self.old []).table }
         ensures count { self.new.count ≡ self.old.count }
         ensures bytes { self.new.bytes ≡ self.old.bytes }
@@ -174,7 +175,12 @@ impl State {
                 let key = find_key(self.keys.as_slice(), *cid, *kid);
                 print_unsealed(alloc, &mut self.text, key, *cid, *kid, datagram.as_slice())
             }
-            _ => Ok(()),
+            RouteLine::Blank => Ok(()),
+            RouteLine::Subnet(_) => Ok(()),
+            RouteLine::Between => Ok(()),
+            RouteLine::Add(_, _) => Ok(()),
+            RouteLine::Leave(_) => Ok(()),
+            RouteLine::Key { .. } => Ok(()),
         }
     }
 
@@ -201,7 +207,12 @@ impl State {
                 drop_key(&mut self.keys, cid, kid);
                 self.keys.push(key)?;
             }
-            _ => {}
+            RouteLine::Blank => {}
+            RouteLine::Owner(_) => {}
+            RouteLine::From(_, _) => {}
+            RouteLine::Device(_) => {}
+            RouteLine::Seal { .. } => {}
+            RouteLine::Unseal { .. } => {}
         }
         Ok(())
     }
@@ -240,7 +251,7 @@ impl State {
         requires counted { self.old.count ≤ self.old.bytes }
         ensures ok { OnOk result ((rest : List Line) →
             outcome_behind self.old (record { body = body.now; ended = ended } ∷ rest) ≡ outcome_behind self.new rest) }
-        ensures refused { IfErr result (λ e. Refuses e (λ line kind. (rest : List Line) →
+        ensures refused { IfErr result (λ e. Faults e (λ line kind. (rest : List Line) →
             Ends (outcome_behind self.old (record { body = body.now; ended = ended } ∷ rest)) (string_bytes self.new.text) (Some (line, kind)))) }
         ensures bytes { OnOk result (self.new.bytes ≡ self.old.bytes + size (record { body = body.now; ended = ended })) }
         ensures small { self.new.bytes ≤ 2 ^ 40 }

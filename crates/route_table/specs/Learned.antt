@@ -1,7 +1,9 @@
 -- The rows of a table together with the hosts that were learned from the packets of clients.
-use Rattle.std.specs.Prelude.{ℕ, ◌==◌, not, List, ◌∷◌, ◌++◌, filter, take}
+use Rattle.std.specs.Prelude.{ℕ, ◌==◌, not, Bool, List, ◌∷◌, ◌++◌, filter, map, take}
+use Rattle.std.specs.List.{list_any}
 use Rattle.vpn_base.specs.declared.address.Ip4.{Ip4}
 use Rattle.vpn_base.specs.declared.names.Cid.{Cid}
+use Rattle.vpn_base.specs.Network.{Network}
 use Rattle.route_table.specs.Owner.{Row, owner, is_owned_by, without}
 
 -- an address and the client that it was learned from
@@ -12,22 +14,34 @@ Host = Ip4 × Cid
 abbrev pub most_hosts : ℕ
 most_hosts = 256
 
--- those hosts whose owner is still the client that they were learned from, in their order
-unfoldable pub kept_hosts : List Row → List Host → List Host
-kept_hosts rows hosts = filter (λ host. is_owned_by host.1 (owner rows host.0)) hosts
+-- this address was learned
+abbrev pub is_learned : List Host → Ip4 → Bool
+is_learned hosts a = list_any (λ host. host.0.0 == a.0) hosts
+
+-- the hosts of all other addresses, in their order
+abbrev pub other_hosts : Ip4 → List Host → List Host
+other_hosts a hosts = filter (λ host. not (host.0.0 == a.0)) hosts
 
 -- a host that is learned is taken out and put in front, and the list is cut at its most
 unfoldable pub learnt : Ip4 → Cid → List Host → List Host
-learnt a cid hosts = take most_hosts ((a, cid) ∷ filter (λ host. not (host.0.0 == a.0)) hosts)
+learnt a cid hosts = take most_hosts ((a, cid) ∷ other_hosts a hosts)
+
+-- those hosts whose owner is still the client that they were learned from, in their order
+unfoldable pub kept_hosts : List Row → List Host → List Host
+kept_hosts rows hosts = filter (λ host. is_owned_by host.1 (owner rows host.0)) hosts
 
 -- the rows in the order in which they were added, and the learned hosts, the latest first
 pub record Table : Type 0 where
   pub rows : List Row
   pub learned : List Host
 
--- the table with these rows, over which its hosts are judged again
+-- the table with these rows in place of its own, over which its hosts are judged again
 abbrev pub over_rows : List Row → Table → Table
 over_rows rows t = record { rows = rows; learned = kept_hosts rows t.learned }
+
+-- rows of networks that a client owns, in their order
+abbrev pub rows_of : Cid → List Network → List Row
+rows_of cid networks = map (λ network. (network, cid)) networks
 
 -- more rows at the end
 abbrev pub with_rows : List Row → Table → Table

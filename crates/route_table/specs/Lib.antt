@@ -1,3 +1,3 @@
 pub mod Owner
 pub mod Learned
-pub mod Walk
+pub mod internal

@@ -1,3 +1,4 @@
 pub mod Words
 pub mod SealLines
 pub mod RouteLine
+pub mod internal

@@ -97,9 +97,16 @@ unseal_line (cid ∷ kid ∷ datagram ∷ more) =
     else Err kinds.Words
 unseal_line _ = Err kinds.Words
 
--- the numbers and bytes of a line are within their bounds
+-- the numbers and bytes of a line are within their bounds, where its kind has any
 abbrev pub IsBounded : RouteLine → Type 0
+IsBounded lines.Blank = Unit {0}
+IsBounded (lines.Subnet network) = Unit {0}
+IsBounded lines.Between = Unit {0}
+IsBounded (lines.Add network cid) = Unit {0}
+IsBounded (lines.Leave cid) = Unit {0}
+IsBounded (lines.Owner address) = Unit {0}
+IsBounded (lines.From cid packet) = Unit {0}
+IsBounded (lines.Device packet) = Unit {0}
 IsBounded (lines.Key cid kid cipher key iv) = (cid.0 < 2 ^ 24) × (kid < 8) × (length key ≡ key_length cipher) × (length iv ≡ 8)
 IsBounded (lines.Seal cid kid id inner) = (cid.0 < 2 ^ 24) × (kid < 8) × (length inner ≤ 1500)
 IsBounded (lines.Unseal cid kid datagram) = (cid.0 < 2 ^ 24) × (kid < 8) × (length datagram ≤ 1524)
-IsBounded _ = Unit {0}

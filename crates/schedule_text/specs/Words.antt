@@ -13,11 +13,6 @@ use Rattle.hex.specs.Hex.{decode_of}
 abbrev pub words_of : List ℕ → List (List ℕ)
 words_of text = slice_split (λ c. c == 32) text
 
--- the words behind the first one, of a text that is there or not
-abbrev pub arguments_of : Option (List ℕ) → List (List ℕ)
-arguments_of None = []
-arguments_of (Some text) = words_of text
-
 -- no words
 abbrev pub are_none : List (List ℕ) → Bool
 are_none [] = true

@@ -15,7 +15,7 @@ pub const LONGEST_UNSEAL: usize = 3_048;
 pub const GREATEST_PEER: u64 = 0xFF_FFFE;
 
 /// A line of a route file.
-#[derive(Debug, Drop)]
+#[derive(Drop)]
 pub enum RouteLine {
     /// An empty line, or a comment.
     Blank,

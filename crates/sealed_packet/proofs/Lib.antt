@@ -1,2 +1,5 @@
-pub mod Opening
-pub mod Sealing
+pub mod Parts
+pub mod Laws
+mod Opening
+mod Sealing
+pub mod Searched

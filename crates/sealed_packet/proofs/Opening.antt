@@ -5,7 +5,7 @@ use borrow.Rule.Slice.PartMut.{put_mid}
 use Rattle.gcm_seal.specs.Sealed.{Sealed}
 use Rattle.opcode_codec.specs.DataPacket.{DataForm, IsData, data_head, data_packet}
 use Rattle.sealed_packet.specs.SealedPacket.{Opens, Sealing, form, nonce, packet, peer_in, sealed_inner}
-use Rattle.sealed_packet.specs.Parts.{readable, peer_read}
+use Rattle.sealed_packet.proofs.Parts.{readable, peer_read}
 
 -- the same inner packet under equal names of its parts
 pub same_sealed : (sealed : Sealing) (implicit : List ℕ) (kid peer id : ℕ) (inner n aad : List ℕ) →

@@ -1,5 +1,3 @@
-pub mod Head
 pub mod SealedPacket
 pub mod Opening
-pub mod Parts
-pub mod Laws
+pub mod internal

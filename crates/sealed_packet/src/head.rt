@@ -3,7 +3,7 @@
 ghost use Rattle.std.specs.Prelude.{◌≡◌, ◌^◌, ◌≤◌, ◌<◌, ◌++◌, length, take, drop, MatchOption, IfSome};
 ghost use Rattle.std.specs.Int.{w32, to_be_bytes};
 ghost use Rattle.opcode_codec.specs.DataPacket.{DataForm, IsData, data_packet};
-ghost use Rattle.sealed_packet.specs.Head.{data_form_of};
+ghost use Rattle.sealed_packet.specs.internal.Head.{data_form_of};
 ghost use Rattle.sealed_packet.specs.SealedPacket.{nonce};
 
 use opcode_codec::{Packet, read_packet};

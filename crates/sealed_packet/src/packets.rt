@@ -1,7 +1,9 @@
 //! Sealing and opening.
 
-ghost use Rattle.std.specs.Prelude.{◌≡◌, ℕ, ◌+◌, ◌^◌, ◌<◌, ◌≤◌, List, length, take, drop, IfOk, IfErr};
+ghost use Rattle.std.specs.Prelude.{◌≡◌, ◌↔◌, ℕ, ◌+◌, ◌^◌, ◌<◌, ◌≤◌, List, length, take, drop, Some, None, OnOk, IfOk, IfErr};
+ghost use Rattle.byte_texts.specs.Texts.{IsBytes};
 ghost use Rattle.sealed_packet.specs.SealedPacket.{Opens, packet, peer_in};
+ghost use Rattle.sealed_packet.specs.Opening.{opened, opening};
 
 use crate::head::{nonce_of, read_head};
 use gcm_seal::{Aead, NotSealed};
@@ -41,7 +43,7 @@ pub fn seal_packet<C: Aead>(
 }
 
 /// Opens a data packet in place, and answers its packet id: the bytes from 24 on are then the inner
-/// packet. `NotSealed` comes exactly where the datagram is no data packet with this key id, or is
+/// packet, and those in front of them stay. `NotSealed` comes exactly where the datagram is no data packet with this key id, or is
 /// not authentic; it is unchanged then (OpenVPN wire protocol, P_DATA_V2).
 pub fn open_packet<C: Aead>(
     cipher: &C,
@@ -53,6 +55,8 @@ pub fn open_packet<C: Aead>(
     requires short { length datagram.old ≤ 65536 }
     ensures opened { IfOk result (λ id. Opens (C.sealed cipher.now) implicit kid datagram.old id (drop 24 datagram.new)) }
     ensures refused { IfErr result (λ _. (id : ℕ) (inner : List ℕ) → ¬ Opens (C.sealed cipher.now) implicit kid datagram.old id inner) }
+    ensures exact { opening (C.sealed cipher.now) implicit kid datagram.old ≡ opened result (drop 24 datagram.new) }
+    ensures front { OnOk result (take 24 datagram.new ≡ take 24 datagram.old) }
     ensures unchanged { IfErr result (λ _. datagram.new ≡ datagram.old) }
 {
     let Some(head) = read_head(datagram, kid) else {
@@ -79,4 +83,15 @@ pub fn opens_what_was_sealed<C: Aead>(cipher: &C)
     ensures { (implicit : List ℕ) (kid peer id : ℕ) (inner : List ℕ) → peer < 2 ^ 24 → id < 2 ^ 32
         → Opens (C.sealed cipher.now) implicit kid (packet (C.sealed cipher.now) implicit kid peer id inner) id inner
         × (peer_in (packet (C.sealed cipher.now) implicit kid peer id inner) ≡ peer) }
+{}
+
+/// The search for what a datagram of bytes opens to finds the packet id and the inner packet to which
+/// it opens, and finds nothing exactly where it opens to none. An inner packet is a list of bytes.
+pub fn opening_is_what_opens<C: Aead>(cipher: &C)
+    ensures some { (implicit : List ℕ) (kid : ℕ) (datagram : List ℕ) (id : ℕ) (inner : List ℕ) → IsBytes datagram
+        → (opening (C.sealed cipher.now) implicit kid datagram ≡ Some (id, inner))
+        ↔ (Opens (C.sealed cipher.now) implicit kid datagram id inner × IsBytes inner) }
+    ensures none { (implicit : List ℕ) (kid : ℕ) (datagram : List ℕ) → IsBytes datagram
+        → (opening (C.sealed cipher.now) implicit kid datagram ≡ None)
+        ↔ ((id : ℕ) (inner : List ℕ) → IsBytes inner → ¬ Opens (C.sealed cipher.now) implicit kid datagram id inner) }
 {}

@@ -6,15 +6,10 @@ use std::process::Abort;
 
 const IMPLICIT: [u8; 8] = [0xa0, 0xa1, 0xa2, 0xa3, 0xa4, 0xa5, 0xa6, 0xa7];
 
-// A packet from 10.8.0.2 to 10.8.0.1, and 17 bytes that count.
+// A packet from 10.8.0.2 to 10.8.0.1.
 const INNER: [u8; 20] = [
     0x45, 0x00, 0x00, 0x14, 0x00, 0x00, 0x00, 0x00, 0x40, 0x00, 0x00, 0x00, 0x0a, 0x08, 0x00, 0x02,
     0x0a, 0x08, 0x00, 0x01,
-];
-
-const COUNTING: [u8; 17] = [
-    0x00, 0x01, 0x02, 0x03, 0x04, 0x05, 0x06, 0x07, 0x08, 0x09, 0x0a, 0x0b, 0x0c, 0x0d, 0x0e, 0x0f,
-    0x10,
 ];
 
 const PACKET_SHORT: [u8; 44] = [
@@ -32,23 +27,6 @@ const PACKET_LONG: [u8; 44] = [
 const NOTHING_SHORT: [u8; 24] = [
     0x4f, 0xff, 0xff, 0xff, 0xff, 0xff, 0xff, 0xff, 0xd2, 0x78, 0x77, 0xbb, 0x44, 0x96, 0x77, 0x8b,
     0xa6, 0x6d, 0x35, 0x85, 0x92, 0xd8, 0x30, 0x1c,
-];
-
-const NOTHING_LONG: [u8; 24] = [
-    0x4f, 0xff, 0xff, 0xff, 0xff, 0xff, 0xff, 0xff, 0x74, 0xbc, 0x60, 0x08, 0x0b, 0x15, 0x27, 0xf4,
-    0x84, 0xc0, 0xb3, 0xe1, 0x29, 0xae, 0x61, 0x16,
-];
-
-const COUNTING_SHORT: [u8; 41] = [
-    0x4b, 0x01, 0x02, 0x03, 0x00, 0x00, 0x00, 0x01, 0x29, 0x6c, 0x67, 0x41, 0x2a, 0x9f, 0x0b, 0x61,
-    0x21, 0xa2, 0x0c, 0x46, 0x82, 0x81, 0x7a, 0xb2, 0x43, 0x0f, 0x58, 0xe3, 0x12, 0x2e, 0x43, 0xce,
-    0x5c, 0x99, 0xf1, 0x20, 0xa7, 0x89, 0xce, 0x82, 0x33,
-];
-
-const COUNTING_LONG: [u8; 41] = [
-    0x4b, 0x01, 0x02, 0x03, 0x00, 0x00, 0x00, 0x01, 0x0d, 0xe7, 0x59, 0x1e, 0x7b, 0xe4, 0xbd, 0x85,
-    0xdb, 0xbf, 0x9c, 0xd9, 0x80, 0x76, 0x21, 0xe1, 0xcc, 0x68, 0xb0, 0x3a, 0x61, 0x1b, 0xf3, 0x4e,
-    0xe3, 0x85, 0xfe, 0x53, 0xea, 0x14, 0xa0, 0x4f, 0x60,
 ];
 
 fn short() -> AnyGcm {
@@ -90,59 +68,15 @@ fn seals_and_opens<C: Aead>(
 
 #[test]
 fn packets(rt: HostRuntime) {
-    for (names, inner, want_short, want_long) in [
-        (
-            (0u8, 0x1u32, 0x7u32),
-            INNER.as_slice(),
-            PACKET_SHORT.as_slice(),
-            PACKET_LONG.as_slice(),
-        ),
-        (
-            (7u8, 0xffffffu32, 0xffffffffu32),
-            [].as_slice(),
-            NOTHING_SHORT.as_slice(),
-            NOTHING_LONG.as_slice(),
-        ),
-        (
-            (3u8, 0x10203u32, 0x1u32),
-            COUNTING.as_slice(),
-            COUNTING_SHORT.as_slice(),
-            COUNTING_LONG.as_slice(),
-        ),
-    ] {
-        seals_and_opens(&rt, &short(), names, inner, want_short);
-        seals_and_opens(&rt, &long(), names, inner, want_long);
-    }
-}
-
-#[test]
-fn forged(rt: HostRuntime) {
-    let cipher = short();
-    for place in 0..44usize {
-        let mut datagram = PACKET_SHORT;
-        datagram[place] ^= 1;
-        let before = datagram;
-        assert_eq!(rt;
-            open_packet(&cipher, IMPLICIT, 0, &mut datagram),
-            Err(NotSealed),
-            "byte {place}"
-        );
-        assert_eq!(rt; datagram, before, "byte {place}");
-    }
+    seals_and_opens(&rt, &short(), (0, 1, 7), &INNER, &PACKET_SHORT);
+    seals_and_opens(&rt, &long(), (0, 1, 7), &INNER, &PACKET_LONG);
+    let last = (7, 0xff_ffff, 0xffff_ffff);
+    seals_and_opens(&rt, &short(), last, &[], &NOTHING_SHORT);
     let mut datagram = PACKET_SHORT;
     assert_eq!(rt;
-        open_packet(&cipher, IMPLICIT, 1, &mut datagram),
+        open_packet(&short(), IMPLICIT, 1, &mut datagram),
         Err(NotSealed)
     );
-    assert_eq!(rt;
-        open_packet(&cipher, [0; 8], 0, &mut datagram),
-        Err(NotSealed)
-    );
-    assert_eq!(rt;
-        open_packet(&long(), IMPLICIT, 0, &mut datagram),
-        Err(NotSealed)
-    );
-    assert_eq!(rt; open_packet(&cipher, IMPLICIT, 0, &mut datagram), Ok(7));
 }
 
 // The laws are called once; what they say is in their contracts.
@@ -150,4 +84,5 @@ fn forged(rt: HostRuntime) {
 fn laws(_rt: HostRuntime) {
     opens_once(&short());
     opens_what_was_sealed(&short());
+    opening_is_what_opens(&short());
 }

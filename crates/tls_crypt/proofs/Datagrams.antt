@@ -3,7 +3,7 @@ use Rattle.std.proofs.Common.{◌≡◌, ℕ, ◌+◌, ◌-◌, ◌≤◌, Bool,
 use Rattle.std.proofs.Math.Seq.{take-add}
 use Rattle.std.proofs.lemmas.List.{append-nil, length-append, length-take-le, length-drop, drop-drop, drop_all, take_at, drop_at, take-append-drop, take-take}
 use Rattle.tls_crypt.specs.Wrapped.{Keys, tag, cipher_text, datagram}
-use Rattle.tls_crypt.specs.Laws.{length-cipher_text, length-tag, cipher_text_twice, datagram_front, datagram_tag, datagram_text}
+use Rattle.tls_crypt.specs.internal.Laws.{length-cipher_text, length-tag, cipher_text_twice, datagram_front, datagram_tag, datagram_text}
 use borrow.Rule.Slice.PartMut.{put_mid}
 
 -- after a write to s[at..]

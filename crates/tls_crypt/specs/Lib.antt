@@ -2,5 +2,5 @@ pub mod Wrapped
 pub mod Packets
 pub mod Unwrapping
 pub mod Lending
-pub mod Laws
 pub mod StaticKey
+pub mod internal

@@ -1,6 +1,7 @@
--- What a way of wrapping control packets must not do: wrap two packets to one datagram.
-use Rattle.std.specs.Prelude.{◌≡◌, ℕ, ◌<◌, ◌^◌, List, length}
-use Rattle.tls_crypt.specs.Wrapped.{Keys}
+-- What holds of a way of wrapping control packets: where the header stands, how long a datagram is, and that no
+-- two packets wrap to one.
+use Rattle.std.specs.Prelude.{◌≡◌, ℕ, ◌+◌, ◌<◌, ◌^◌, List, length, take}
+use Rattle.tls_crypt.specs.Wrapped.{Keys, header}
 
 -- what wraps: a first byte, a session id, a wrap id, a time and a plain text to a datagram
 abbrev pub Wrapping : Type 0
@@ -28,6 +29,13 @@ pub record InRange (p : Packet) : Type 0 where
 -- the datagram that a packet is wrapped to
 abbrev pub wrapped_by : Wrapping → Packet → List ℕ
 wrapped_by wraps p = wraps p.first p.sid p.id p.time p.plain
+
+-- a datagram begins with its header, and has 32 bytes more than the header and the plain text
+abbrev pub IsFramed : Wrapping → Type 0
+IsFramed wraps =
+    (first : ℕ) (sid : List ℕ) (id time : ℕ) (plain : List ℕ)
+    → (take (9 + length sid) (wraps first sid id time plain) ≡ header first sid id time)
+    × (length (wraps first sid id time plain) ≡ 41 + length sid + length plain)
 
 -- no two packets wrap to one datagram
 abbrev pub IsOneToOne : Wrapping → Type 0

@@ -12,8 +12,8 @@ mod wrapping;
 pub use datagram::Datagram;
 pub use header::Header;
 pub use static_key::{KeyFault, KeyKind, StaticKey, read_static_key};
-pub use wrapper::Wrapper;
-pub use wrapping::{Opened, Unwrap, Wrap};
+pub use wrapper::{Wrapper, unwraps_what_the_other_end_wrapped};
+pub use wrapping::{Opened, Unwrap, Wrap, unwrapping_is_what_unwraps};
 
 #[cfg(test)]
 mod tests;

@@ -1,9 +1,12 @@
 //! Wrapping under a static key (OpenVPN 2.6, src/openvpn/tls_crypt.h).
 
-ghost use Rattle.std.specs.Prelude.{◌≡◌};
+ghost use Rattle.std.specs.Prelude.{◌≡◌, Some};
+ghost use Rattle.byte_texts.specs.Texts.{IsBytes};
+ghost use Rattle.vpn_base.specs.declared.names.Role.TheVariants.{Client, Server};
 ghost use Rattle.tls_crypt.specs.Wrapped.{half, keys_of, read_half, written_half, wrapped as datagram_of};
-ghost use Rattle.tls_crypt.specs.Packets.{Directions};
-ghost use Rattle.tls_crypt.specs.Laws.{one_packet};
+ghost use Rattle.tls_crypt.specs.Packets.{Directions, InRange, Packet, wrapped_by};
+ghost use Rattle.tls_crypt.specs.Unwrapping.{unwrapping};
+ghost use Rattle.tls_crypt.specs.internal.Laws.{framed, one_packet};
 
 use crate::bytes::{array_at, put};
 use crate::half::{Half, OVERHEAD};
@@ -58,6 +61,10 @@ impl Wrap for Wrapper {
 
     ghost unwrapped = { λ w. datagram_of w.reads };
 
+    ghost wrapped_framed = { λ w. framed w.writes };
+
+    ghost unwrapped_framed = { λ w. framed w.reads };
+
     ghost wrapped_once = { λ w. one_packet w.writes };
 
     ghost unwrapped_once = { λ w. one_packet w.reads };
@@ -88,3 +95,13 @@ impl Wrap for Wrapper {
         Ok(header_at(datagram))
     }
 }
+
+/// What one end wraps under a key, the other unwraps to the same packet.
+pub fn unwraps_what_the_other_end_wrapped(key: &StaticKey)
+    ensures server { (p : Packet) → InRange p → IsBytes p.plain →
+        unwrapping (datagram_of (keys_of (half key.now.0 (read_half Server))))
+        (wrapped_by (datagram_of (keys_of (half key.now.0 (written_half Client)))) p) ≡ Some p }
+    ensures client { (p : Packet) → InRange p → IsBytes p.plain →
+        unwrapping (datagram_of (keys_of (half key.now.0 (read_half Client))))
+        (wrapped_by (datagram_of (keys_of (half key.now.0 (written_half Server)))) p) ≡ Some p }
+{}

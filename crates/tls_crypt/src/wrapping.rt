@@ -1,7 +1,8 @@
 //! Wrapping of control packets, whatever the keys.
 
 ghost use Rattle.std.specs.Prelude.{◌≡◌, ◌≤◌, ◌<◌, ◌+◌, ◌↔◌, ℕ, List, length, take, drop, IfOk, IsErrOf, OnOk, OnErr};
-ghost use Rattle.tls_crypt.specs.Packets.{IsOneToOne, IsWrappedByNone};
+ghost use Rattle.tls_crypt.specs.Packets.{IsFramed, IsOneToOne, IsWrappedByNone, Wrapping};
+ghost use Rattle.tls_crypt.specs.Unwrapping.{FindsWhatUnwraps, unwrapped_in_place, unwrapping};
 
 use crate::header::Header;
 use vpn_base::Sid;
@@ -34,10 +35,10 @@ pub struct Opened<'a> {
 pub trait Wrap {
     /// The datagram to which this end wraps a first byte, a session id, a wrap id, a time and a plain
     /// text.
-    ghost wrapped: { Self → ℕ → List ℕ → ℕ → ℕ → List ℕ → List ℕ };
+    ghost wrapped: { Self → Wrapping };
 
     /// The datagram to which the other end wraps them.
-    ghost unwrapped: { Self → ℕ → List ℕ → ℕ → ℕ → List ℕ → List ℕ };
+    ghost unwrapped: { Self → Wrapping };
 
     /// Writes the wrapped datagram to the front of `out`, and answers its length in bytes, which is 49
     /// more than that of the plain text. The rest of `out` stays.
@@ -56,10 +57,17 @@ pub trait Wrap {
         ensures opened { IfOk result (λ h.
             datagram.old ≡ unwrapped self.now h.first h.sid.0 h.id h.time (drop 49 datagram.new)) }
         ensures refused { IsErrOf result Unwrap.NotWrapped → IsWrappedByNone (unwrapped self.now) datagram.old }
+        ensures exact { unwrapping (unwrapped self.now) datagram.old ≡ unwrapped_in_place result (drop 49 datagram.new) }
         ensures short { IsErrOf result Unwrap.Short ↔ (length datagram.old < 49) }
         ensures long { OnOk result (49 ≤ length datagram.old) }
         ensures front { OnOk result (take 49 datagram.new ≡ take 49 datagram.old) }
         ensures unchanged { OnErr result (datagram.new ≡ datagram.old) };
+
+    /// Where the header stands, and how long a datagram is, at this end.
+    ghost wrapped_framed: { (w : Self) → IsFramed (wrapped w) };
+
+    /// The same at the other end.
+    ghost unwrapped_framed: { (w : Self) → IsFramed (unwrapped w) };
 
     /// No two packets wrap to one datagram at this end.
     ghost wrapped_once: { (w : Self) → IsOneToOne (wrapped w) };
@@ -67,3 +75,9 @@ pub trait Wrap {
     /// No two packets wrap to one datagram at the other end.
     ghost unwrapped_once: { (w : Self) → IsOneToOne (unwrapped w) };
 }
+
+/// The search for the packet that wraps to a datagram finds exactly that, of what either end wraps.
+pub fn unwrapping_is_what_unwraps<W: Wrap>(wrap: &W)
+    ensures here { FindsWhatUnwraps (W.wrapped wrap.now) }
+    ensures there { FindsWhatUnwraps (W.unwrapped wrap.now) }
+{}

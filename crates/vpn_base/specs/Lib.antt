@@ -7,5 +7,6 @@ pub mod Sink
 pub mod Memory
 pub mod Acks
 pub mod Lines
+pub mod WordCount
 pub mod FileName
 pub mod CipherName

@@ -1,5 +1,5 @@
 -- Files and sinks in memory, which tell everything and fail at the calls that they are told to.
-use Rattle.std.specs.Prelude.{ℕ, ◌+◌, ◌-◌, ◌^◌, ◌==◌, ◌||◌, nat_lt, min, Bool, true, false, List, [], ◌∷◌, ◌++◌, length, take, drop, Option, Some, None, Result, Ok, Err, if◌then◌else◌}
+use Rattle.std.specs.Prelude.{ℕ, ◌+◌, ◌-◌, ◌^◌, ◌==◌, ◌||◌, nat_lt, min, Bool, true, false, List, [], ◌∷◌, ◌++◌, length, take, drop, Result, Ok, Err, if◌then◌else◌}
 use Rattle.std.specs.List.{list_any}
 use Rattle.std.specs.Str.{bytes_eq}
 use Rattle.vpn_base.specs.declared.outside.FileFault.{FileFault}
@@ -22,11 +22,6 @@ counted n = if nat_lt n (2 ^ 64 - 1) then n + 1 else n
 abbrev pub holding : List (List ℕ × List ℕ) → List ℕ → Holding
 holding [] name = Absent
 holding (file ∷ files) name = if bytes_eq file.0 name then Held file.1 else holding files name
-
--- what is held, if there is a file
-abbrev pub holding_as : Option (List ℕ) → Holding
-holding_as None = Absent
-holding_as (Some bytes) = Held bytes
 
 -- whether the call of this number is to fail
 abbrev pub is_failing : List ℕ → ℕ → Bool

@@ -1,11 +1,11 @@
 //! Files and sinks in memory, which tell everything and fail at the calls that they are told to.
 
 ghost use Rattle.std.specs.Prelude.{◌≡◌, ℕ, ◌<◌, ◌≤◌, ◌+◌, ◌^◌, List, [], ◌∷◌, ◌++◌, length, take, drop, Some, Option, IfOk, IfErr, OnErr, Ok, Err};
-ghost use Rattle.std.specs.Option.{option_copied};
+ghost use Rattle.std.specs.Option.{option_copied, option_map_or};
 ghost use Rattle.vpn_base.specs.Answers.{Rose};
-ghost use Rattle.vpn_base.specs.Files.{Holding, Absent, Copied, IsMissing};
+ghost use Rattle.vpn_base.specs.Files.{Holding, Absent, Held, Copied, IsMissing};
 ghost use Rattle.vpn_base.specs.Sink.{appended};
-ghost use Rattle.vpn_base.specs.Memory.{holding, holding_as, given, answer_of, placed, after_take, accepted, after_write, counted, is_failing};
+ghost use Rattle.vpn_base.specs.Memory.{holding, given, answer_of, placed, after_take, accepted, after_write, counted, is_failing};
 
 use crate::bytes::{Bytes, Text};
 use crate::errors::NoMemory;
@@ -58,7 +58,7 @@ fn is_among(numbers: &[u64], number: u64) -> bool
 }
 
 fn find<'a>(held: &'a [(Text, Bytes)], name: &[u8]) -> Option<&'a Bytes>
-    ensures { holding held.now name.now ≡ holding_as (option_copied result) }
+    ensures { holding held.now name.now ≡ option_map_or (λ bytes. Held bytes) (option_copied result) Absent }
 {
     for (known, bytes) in held {
         if known.as_slice() == name {

@@ -1,4 +1,4 @@
-//! IPv4 addresses written as text.
+//! Bytes written into a buffer, and IPv4 addresses as text.
 
 ghost use Rattle.std.specs.Prelude.{◌≡◌, ℕ, ◌≤◌, ◌<◌, ◌+◌, ◌^◌, [], ◌∷◌, ◌++◌, length, take, drop, Some};
 ghost use Rattle.std.specs.Fmt.{decimal};
@@ -8,8 +8,8 @@ ghost use Rattle.vpn_base.specs.Address.{ip4_of, ip4_text};
 use crate::address::Ip4;
 use itoa::Buffer;
 
-// Writes bytes at a place.
-fn put(out: &mut [u8], at: usize, bytes: &[u8])
+/// Writes bytes at a place. What stands before and behind them stays.
+pub fn write_at(out: &mut [u8], at: usize, bytes: &[u8])
     requires { at + length bytes.now ≤ length out.old }
     ensures written { take (at + length bytes.now) out.new ≡ take at out.old ++ bytes.now }
     ensures rest { drop (at + length bytes.now) out.new ≡ drop (at + length bytes.now) out.old }
@@ -27,7 +27,7 @@ fn write_octet(out: &mut [u8], at: usize, octet: u8) -> usize
 {
     let mut buffer = Buffer::new();
     let text = buffer.format(octet).as_bytes();
-    put(out, at, text);
+    write_at(out, at, text);
     at + text.len()
 }
 
@@ -40,7 +40,7 @@ fn write_dotted(out: &mut [u8], at: usize, octet: u8) -> usize
     ensures rest { drop result out.new ≡ drop result out.old }
 {
     let end = write_octet(out, at, octet);
-    put(out, end, b".");
+    write_at(out, end, b".");
     end + 1
 }
 

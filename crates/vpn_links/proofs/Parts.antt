@@ -8,7 +8,7 @@ use Rattle.vpn_links.specs.declared.store.Kept.{Kept}
 use Rattle.vpn_links.specs.declared.store.Kept.TheVariants as kept
 use Rattle.vpn_links.specs.declared.store.Staged.{Staged}
 use Rattle.vpn_links.specs.Actions.{Action, Datagram, carried, carried_by, on_wire, staged_bytes}
-use Rattle.vpn_links.specs.Store.{part, kept_action, kept_datagram, staged_datagram, own, own_all, own_staged, IsWithin, IsKeptWithin, IsStagedWithin, IsSound}
+use Rattle.vpn_links.specs.internal.Store.{part, kept_action, kept_datagram, staged_datagram, own, own_all, own_staged, IsWithin, IsKeptWithin, IsStagedWithin, IsSound}
 
 pub part_append : (store more : List ℕ) (span : Span) → IsWithin (length store) span → part (store ++ more) span ≡ part store span
 unfolding part

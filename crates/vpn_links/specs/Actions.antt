@@ -1,5 +1,5 @@
 -- What a step of a core does to the outside, without where its bytes lie in memory.
-use Rattle.std.specs.Prelude.{◌≡◌, ℕ, ◌+◌, List, [], ◌∷◌, length, Option}
+use Rattle.std.specs.Prelude.{◌≡◌, ℕ, ◌+◌, ◌≤◌, Bool, true, false, List, [], ◌∷◌, length, Option}
 use Rattle.vpn_base.specs.declared.names.Cid.{Cid}
 use Rattle.vpn_base.specs.declared.names.Conn.{Conn}
 use Rattle.vpn_base.specs.declared.names.Role.{Role}
@@ -42,6 +42,11 @@ action effects.Stop = Stop
 abbrev pub IsPlain : Effect → Type 0
 IsPlain (effects.Configure address len gateway routes rest) = ⊥
 IsPlain _ = Unit {0}
+
+-- whether it is a datagram
+abbrev pub is_wire : Action → Bool
+is_wire (Wire to bytes) = true
+is_wire _ = false
 
 -- the bytes that it carries
 abbrev pub carried_bytes : Action → List ℕ
@@ -86,3 +91,7 @@ pub record Contents : Type 0 where
 -- it holds these, whatever room it has
 abbrev pub Holds : Contents → List Action → List Datagram → Type 0
 Holds c effects staged = (c.effects ≡ effects) × (c.staged ≡ staged)
+
+-- it has at least the room of an outbox that was made or cleared
+abbrev pub HasRoom : Contents → Type 0
+HasRoom c = (4 ≤ c.spare_effects) × (4096 ≤ c.spare_bytes)

@@ -1,3 +1,7 @@
 pub mod Actions
-pub mod Store
+pub mod LinkStore
+pub mod Rounds
+pub mod Starts
+pub mod Steps
 pub mod Texts
+pub mod internal

@@ -1,6 +1,9 @@
 //! What comes to a core, one event at a time.
 
-use vpn_base::{Addr, Bytes, Cid, Conn, Draw, Moment, Text};
+ghost use Rattle.std.specs.Prelude.{◌≡◌, IfOk};
+
+use std::alloc::Global;
+use vpn_base::{Addr, Bytes, Cid, Conn, Draw, Moment, NoMemory, Text};
 
 /// One event, with its moment and the random bytes that it brings.
 #[derive(Debug, Drop)]
@@ -13,6 +16,20 @@ pub struct Event {
     pub kind: Kind,
 }
 
+impl Event {
+    // The same event, with bytes of its own.
+    pub(crate) fn copy(&self, alloc: Global) -> Result<Event, NoMemory>
+        ensures { IfOk result (λ e. e ≡ self.entry.now) }
+    {
+        let kind = self.kind.copy(alloc)?;
+        Ok(Event {
+            now: self.now,
+            draw: self.draw,
+            kind,
+        })
+    }
+}
+
 /// What is answered to a question for a client's file.
 #[derive(Debug, Drop)]
 pub enum FileAnswer {
@@ -22,6 +39,18 @@ pub enum FileAnswer {
     Missing,
     /// The file could not be read.
     Failed,
+}
+
+impl FileAnswer {
+    fn copy(&self, alloc: Global) -> Result<FileAnswer, NoMemory>
+        ensures { IfOk result (λ a. a ≡ self.now) }
+    {
+        match self {
+            FileAnswer::Held(bytes) => Ok(FileAnswer::Held(copy_of(alloc, bytes)?)),
+            FileAnswer::Missing => Ok(FileAnswer::Missing),
+            FileAnswer::Failed => Ok(FileAnswer::Failed),
+        }
+    }
 }
 
 /// What an event is.
@@ -83,4 +112,49 @@ pub enum Kind {
     Tick,
     /// The program is to end.
     Halt,
+}
+
+impl Kind {
+    fn copy(&self, alloc: Global) -> Result<Kind, NoMemory>
+        ensures { IfOk result (λ k. k ≡ self.now) }
+    {
+        match self {
+            Kind::Datagram { from, bytes } => Ok(Kind::Datagram {
+                from: *from,
+                bytes: copy_of(alloc, bytes)?,
+            }),
+            Kind::EngineText { conn, bytes } => Ok(Kind::EngineText {
+                conn: *conn,
+                bytes: copy_of(alloc, bytes)?,
+            }),
+            Kind::EnginePlain { conn, bytes } => Ok(Kind::EnginePlain {
+                conn: *conn,
+                bytes: copy_of(alloc, bytes)?,
+            }),
+            Kind::EngineUp { conn, name } => Ok(Kind::EngineUp {
+                conn: *conn,
+                name: Text::copy(alloc, name.as_slice())?,
+            }),
+            Kind::EngineDown { conn } => Ok(Kind::EngineDown { conn: *conn }),
+            Kind::DeviceIn { bytes } => Ok(Kind::DeviceIn {
+                bytes: copy_of(alloc, bytes)?,
+            }),
+            Kind::DeviceReady => Ok(Kind::DeviceReady),
+            Kind::File { cid, answer } => Ok(Kind::File {
+                cid: *cid,
+                answer: answer.copy(alloc)?,
+            }),
+            Kind::Line { bytes } => Ok(Kind::Line {
+                bytes: copy_of(alloc, bytes)?,
+            }),
+            Kind::Tick => Ok(Kind::Tick),
+            Kind::Halt => Ok(Kind::Halt),
+        }
+    }
+}
+
+fn copy_of(alloc: Global, bytes: &Bytes) -> Result<Bytes, NoMemory>
+    ensures { IfOk result (λ b. b ≡ bytes.now) }
+{
+    Bytes::copy(alloc, bytes.as_slice())
 }

@@ -3,8 +3,8 @@
 ghost use Rattle.std.specs.Prelude.{◌≡◌, ◌+◌, ◌-◌, ◌<◌, ◌≤◌, [], ◌∷◌, ◌++◌, length, take, map, min, vec_len, vec_capacity, IfOk, IsOk, OnOk, OnErr, slice_get};
 ghost use Rattle.std.specs.Option.{option_map};
 ghost use Rattle.std.specs.List.{AllByRecursion};
-ghost use Rattle.vpn_links.specs.Actions.{Configure, Holds, IsPlain, action, carried, carried_by, carried_bytes, on_wire, staged_bytes};
-ghost use Rattle.vpn_links.specs.Store.{IsKeptWithin, IsWithin, kept_action, kept_datagram, own, part};
+ghost use Rattle.vpn_links.specs.Actions.{Configure, HasRoom, Holds, IsPlain, action, carried, carried_by, carried_bytes, on_wire, staged_bytes};
+ghost use Rattle.vpn_links.specs.internal.Store.{IsKeptWithin, IsWithin, kept_action, kept_datagram, own, part};
 
 use crate::effects::Effect;
 use crate::store::{Kept, Setup, Span, Staged};
@@ -30,7 +30,7 @@ pub struct Outbox {
 impl Model for Outbox {
     ghost use Rattle.std.specs.Prelude.{◌+◌, ◌-◌, length, map, min, vec_len, vec_capacity};
     ghost use Rattle.vpn_links.specs.Actions.{Contents};
-    ghost use Rattle.vpn_links.specs.Store.{IsSound, kept_action, staged_datagram};
+    ghost use Rattle.vpn_links.specs.internal.Store.{IsSound, kept_action, staged_datagram};
 
     ghost Value = { Contents };
 
@@ -62,7 +62,7 @@ fn put(store: &mut Vec<u8>, bytes: &[u8]) -> Result<Span, NoMemory>
 }
 
 // The bytes at a place of the store.
-#[tactic(auto, unfolding(crate::specs::Store::part))]
+#[tactic(auto, unfolding(crate::specs::internal::Store::part))]
 fn lend(store: &[u8], span: Span) -> &[u8]
     requires { IsWithin (length store.now) span }
     ensures { result.now ≡ part store.now span }
@@ -210,10 +210,11 @@ fn append_staged(staged: &mut Vec<Staged>, datagram: Staged)
 }
 
 impl Outbox {
-    /// An empty outbox, with room for 4 effects and 4,096 bytes.
+    /// An empty outbox, with room for 4 effects and 4,096 bytes. One that is made or cleared has that room;
+    /// one that was emptied by [`Outbox::cut`] need not have it.
     pub fn make(alloc: Global) -> Result<Outbox, NoMemory>
         ensures empty { IfOk result (λ o. Holds o [] []) }
-        ensures spare { IfOk result (λ o. (4 ≤ o.spare_effects) × (4096 ≤ o.spare_bytes)) }
+        ensures spare { IfOk result HasRoom }
     {
         Ok(Outbox {
             effects: Vec::with_capacity(alloc, EFFECTS)?,
@@ -227,17 +228,19 @@ impl Outbox {
         ensures empty { Holds self.new [] [] }
         ensures effects { self.new.spare_effects ≡ self.old.spare_effects + length self.old.effects + length self.old.staged }
         ensures bytes { self.old.spare_bytes + carried_by self.old.effects + staged_bytes self.old.staged ≤ self.new.spare_bytes }
-        ensures least { (4 ≤ self.new.spare_effects) × (4096 ≤ self.new.spare_bytes) }
+        ensures least { HasRoom self.new }
     {
         self.effects.clear();
         self.staged.clear();
         self.bytes.clear();
     }
 
-    /// Makes room for at least so many more effects or staged datagrams, and for so many more bytes.
+    /// Makes room for at least so many more effects or staged datagrams, and for so many more bytes. It takes
+    /// no memory where that room is there.
     pub fn reserve(&mut self, effects: usize, bytes: usize) -> Result<(), NoMemory>
         ensures same { Holds self.new self.old.effects self.old.staged }
         ensures ok { OnOk result ((effects ≤ self.new.spare_effects) × (bytes ≤ self.new.spare_bytes)) }
+        ensures fits { effects ≤ self.old.spare_effects → bytes ≤ self.old.spare_bytes → IsOk result }
         ensures grows { (self.old.spare_effects ≤ self.new.spare_effects) × (self.old.spare_bytes ≤ self.new.spare_bytes) }
     {
         make_room(&mut self.effects, &mut self.staged, effects)?;
@@ -305,7 +308,8 @@ impl Outbox {
         self.staged.len()
     }
 
-    /// Keeps the first so many effects and the first so many staged datagrams.
+    /// Keeps the first so many effects and the first so many staged datagrams. The bytes of what is cut off
+    /// keep their room until the outbox is cleared.
     #[tactic(auto, using(crate::proofs::Parts::take_map, crate::proofs::Parts::all_take, crate::proofs::Parts::own_take, crate::proofs::Parts::own_staged_take))]
     pub fn cut(&mut self, effects: usize, staged: usize)
         requires effects { effects ≤ length self.old.effects }

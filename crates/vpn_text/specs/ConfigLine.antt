@@ -19,9 +19,17 @@ abbrev pub words_in : ℕ → Result (List (List ℕ)) LineFault → Result (Lis
 words_in number (Ok words) = Ok words
 words_in number (Err fault) = Err (record { line = number; kind = kind_of fault.kind; word = [] })
 
+-- whether a line without its end is too long
+abbrev pub is_long : List ℕ → Bool
+is_long line = nat_lt 1024 (length line)
+
+-- whether a file that has so many bytes up to the end of a line is too long with it
+abbrev pub is_over : ℕ → Bool
+is_over reached = nat_lt 65536 reached
+
 -- the words of the line of this number, which is too long with more than 1,024 bytes, or where the file
 -- passes its 65,536 bytes in it
 unfoldable pub config_words : ℕ → List ℕ → Bool → Result (List (List ℕ)) ConfigFault
 config_words number line passes =
-    if nat_lt 1024 (length line) || passes then Err (record { line = number; kind = kinds.Long; word = [] })
+    if is_long line || passes then Err (record { line = number; kind = kinds.Long; word = [] })
     else words_in number (line_words line)

@@ -2,3 +2,4 @@ pub mod Words
 pub mod Quoted
 pub mod Mask
 pub mod ConfigLine
+pub mod CipherWord

@@ -1,8 +1,8 @@
 -- IPv4 masks of leading ones, as text.
-use Rattle.std.specs.Prelude.{ℕ, zero, suc, ◌-◌, ◌%◌, ◌^◌, ◌==◌, List, Option, Some, None, if◌then◌else◌}
+use Rattle.std.specs.Prelude.{ℕ, zero, suc, ◌-◌, ◌^◌, ◌==◌, List, Option, Some, None, if◌then◌else◌}
 use Rattle.vpn_base.specs.declared.address.Ip4.{Ip4}
 use Rattle.vpn_base.specs.Address.{ip4_of, ip4_text}
-use Rattle.vpn_base.specs.Network.{Network}
+use Rattle.vpn_base.specs.Network.{Network, network_from}
 
 -- so many leading ones of 32 bits, at most 32
 abbrev pub mask_number : ℕ → ℕ
@@ -25,12 +25,6 @@ mask_of text = length_of (ip4_of text)
 -- the mask of a length, as text
 unfoldable pub mask_text : ℕ → List ℕ
 mask_text len = ip4_text (record { 0 = mask_number len })
-
--- the network of an address and a mask length, where no bit of the address past the mask is set
-abbrev pub network_from : Option Ip4 → Option ℕ → Option Network
-network_from (Some net) (Some len) =
-    if net.0 % 2 ^ (32 - len) == 0 then Some (record { net = net; len = len }) else None
-network_from _ _ = None
 
 -- the network that the texts of an address and of a mask spell
 unfoldable pub masked_network : List ℕ → List ℕ → Option Network

@@ -1,4 +1,4 @@
--- The words of a line, with quotes, escapes and comments (the options of OpenVPN 2.6, src/openvpn/options_parse.c, parse_line).
+-- The words of a line, with quotes, escapes and comments (as in configuration files of OpenVPN 2.6, src/openvpn/options.c, parse_line; what quotes and backslashes do is this profile's own).
 use Rattle.std.specs.Prelude.{ℕ, ◌+◌, ◌==◌, ◌&&◌, ◌||◌, nat_lt, not, Bool, List, [], ◌∷◌, ◌++◌, Option, Some, None, Result, Ok, Err, position, if◌then◌else◌}
 use Rattle.vpn_text.specs.declared.words.LineFault.{LineFault}
 use Rattle.vpn_text.specs.declared.words.LineKind.TheVariants.{Quote, Escape, Control}

@@ -2,14 +2,17 @@
 
 ghost use Rattle.std.specs.Prelude.{◌≡◌, ◌<◌, ◌^◌, length};
 ghost use Rattle.vpn_base.specs.Answers.{Answers};
-ghost use Rattle.vpn_text.specs.ConfigLine.{kind_of, config_words};
+ghost use Rattle.vpn_text.specs.ConfigLine.{kind_of, config_words, is_long, is_over};
 
 use crate::words::{LineFault, LineKind, read_line};
 use std::alloc::Global;
 use vpn_base::{Or, Text, TextList};
 
 // The greatest length of a line without its end, in bytes.
-const LONGEST_LINE: usize = 1024;
+const LONGEST_LINE: usize = 1_024;
+
+// The greatest size of a file, in bytes.
+const LONGEST_FILE: usize = 65_536;
 
 /// What is wrong with a file of directives.
 #[derive(Clone, Copy, Debug, PartialEq, Eq)]
@@ -60,6 +63,21 @@ fn kind_of(kind: LineKind) -> ConfigKind
     }
 }
 
+/// Whether a line without its end is too long: it has more than 1,024 bytes.
+pub fn is_long(line: &[u8]) -> bool
+    ensures { result ≡ is_long line.now }
+{
+    line.len() > LONGEST_LINE
+}
+
+/// Whether a file that has so many bytes up to the end of a line is too long with it: they are
+/// more than 65,536.
+pub fn is_over(reached: usize) -> bool
+    ensures { result ≡ is_over reached }
+{
+    reached > LONGEST_FILE
+}
+
 /// The words of the line of this number; `passes` says that the file has more than 65,536 bytes
 /// with this line and its end. `Long` comes exactly for such a line and for one of more than 1,024
 /// bytes, then `Control`, `Quote` and `Escape` as `read_line` has them, each with no word.
@@ -72,7 +90,7 @@ pub fn read_config_line(
 ) -> Result<TextList, Or<ConfigFault>>
     ensures { Answers result (config_words number line.now passes) }
 {
-    if line.len() > LONGEST_LINE || passes {
+    if is_long(line) || passes {
         return Err(Or::Why(ConfigFault {
             line: number,
             kind: ConfigKind::Long,

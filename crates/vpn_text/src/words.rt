@@ -59,7 +59,8 @@ enum Turn {
     Close,
 }
 
-fn is_blank(byte: u8) -> bool
+/// Whether the byte divides words: a space or a tab.
+pub fn is_blank(byte: u8) -> bool
     ensures { result ≡ is_blank byte }
 {
     byte == b' ' || byte == b'\t'
@@ -71,7 +72,8 @@ fn begins_comment(byte: u8) -> bool
     byte == b'#' || byte == b';'
 }
 
-fn is_control(byte: u8) -> bool
+/// Whether no line may have the byte: it is below 0x20 and no tab, or 0x7F.
+pub fn is_control(byte: u8) -> bool
     ensures { result ≡ is_control byte }
 {
     (byte < b' ' && byte != b'\t') || byte == 0x7F

@@ -11,7 +11,7 @@ use Rattle.vpn_top.specs.declared.refusal.Refusal.{Refusal}
 use Rattle.vpn_top.specs.declared.refusal.Refusal.TheVariants as refusals
 use Rattle.vpn_top.specs.Messages.{refusal_line}
 use Rattle.vpn_top.specs.Written.{Printed, PrintedPart, Run}
-use Rattle.vpn_top.specs.Ends.{Ended, Counts}
+use Rattle.vpn_top.specs.internal.Ends.{Ended, Counts}
 use Rattle.vpn_top.specs.Answer.{RanRoute, Told}
 use Rattle.vpn_top.proofs.Runs.{file_of}
 

@@ -14,7 +14,7 @@ use Rattle.ovpn_config.specs.declared.settings.KeyPlace.TheVariants.{Named, Inli
 use Rattle.ovpn_config.specs.Canonical.{canonical}
 use Rattle.ovpn_config.specs.Reading.{settings}
 use Rattle.vpn_top.specs.Configuration.{Configured, IsFrontOf, IsKeyText, Keyed, Misconfigured}
-use Rattle.vpn_top.specs.Refused.{ConfigEnded, HasKey, IsGone, KeyEnded, KeyFileEnded, KeyedBy, LacksKey, Printing, gone_refusal}
+use Rattle.vpn_top.specs.internal.Refused.{ConfigEnded, HasKey, IsGone, KeyEnded, KeyFileEnded, KeyedBy, LacksKey, Printing, gone_refusal}
 use Rattle.vpn_top.specs.declared.refusal.Refusal.{Refusal}
 use Rattle.vpn_top.specs.declared.refusal.Refusal.TheVariants as refusals
 use Rattle.vpn_top.specs.Check.{CheckedAtMost, RanCheck}

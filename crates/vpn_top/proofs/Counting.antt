@@ -5,7 +5,7 @@ use Rattle.vpn_base.specs.Answers.{Rose}
 use Rattle.vpn_base.specs.Files.{Holding}
 use Rattle.vpn_top.specs.declared.refusal.Refusal.{Refusal}
 use Rattle.vpn_top.specs.declared.refusal.Refusal.TheVariants as refusals
-use Rattle.vpn_top.specs.Ends.{Ended}
+use Rattle.vpn_top.specs.internal.Ends.{Ended}
 
 pub rose_since : (earlier before after : ℕ) → earlier ≤ before → Rose before after → Rose earlier after
 rose_since earlier before after falls rose = omega arith

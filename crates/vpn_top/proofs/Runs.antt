@@ -11,7 +11,7 @@ use Rattle.route_file.specs.Output.{Outcome, printed_before, routes}
 use Rattle.route_file.specs.Progress.{Progress, outcome_with, Ends}
 use Rattle.vpn_top.specs.Partly.{AppendedPart}
 use Rattle.vpn_top.specs.Written.{Printed, PrintedPart, IsWhole, IsFile}
-use Rattle.vpn_top.specs.Going.{Going, IsFront, IsEnd, IsNext, Settled}
+use Rattle.vpn_top.specs.internal.Going.{Going, IsFront, IsEnd, IsNext, Settled}
 use Rattle.vpn_top.proofs.Appending.{appended-appended, appended-nil}
 
 -- the whole output is written

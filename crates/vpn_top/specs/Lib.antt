@@ -2,10 +2,7 @@ pub mod Words
 pub mod Messages
 pub mod Partly
 pub mod Written
-pub mod Going
-pub mod Ends
 pub mod Configuration
 pub mod Check
-pub mod Refused
 pub mod Answer
-pub mod Told
+pub mod internal

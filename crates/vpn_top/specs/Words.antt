@@ -1,8 +1,6 @@
 -- The words of a command line, after the program's name.
 use Rattle.std.specs.Prelude.{ℕ, List, [], ◌∷◌, codes, Option, Some, None, if◌then◌else◌}
 use Rattle.std.specs.Str.{bytes_eq}
-use Rattle.vpn_top.specs.declared.top.Request.{Request}
-use Rattle.vpn_top.specs.declared.top.Request.TheVariants as requests
 
 -- a command, with the name of its file
 pub data Command : Type 0 where
@@ -16,8 +14,3 @@ command_of (command ∷ name ∷ []) =
     else if bytes_eq command (codes "check") then Some (Check name)
     else None
 command_of _ = None
-
--- what a request asks for
-abbrev pub asked : Request → Command
-asked (requests.Route name) = Route name.now
-asked (requests.Check name) = Check name.now

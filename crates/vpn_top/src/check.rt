@@ -5,7 +5,7 @@ ghost use Rattle.ovpn_config.specs.Canonical.{canonical};
 ghost use Rattle.vpn_top.specs.declared.refusal.Refusal.TheVariants.{NoMemory};
 ghost use Rattle.vpn_top.specs.Configuration.{Configured, Keyed};
 ghost use Rattle.vpn_top.specs.Check.{RanCheck};
-ghost use Rattle.vpn_top.specs.Refused.{ConfigEnded, HasKey, KeyEnded, KeyFileEnded, KeyedBy, LacksKey, Printing, gone_refusal, refusal_in, subject_in};
+ghost use Rattle.vpn_top.specs.internal.Refused.{ConfigEnded, HasKey, KeyEnded, KeyFileEnded, KeyedBy, LacksKey, Printing, gone_refusal, refusal_in, subject_in};
 
 use crate::front::read_front;
 use crate::refusal::Refusal;

@@ -2,8 +2,8 @@
 
 ghost use Rattle.std.specs.Prelude.{◌≡◌, ◌+◌, ◌<◌, ◌≤◌, ◌^◌, ℕ, List, [], Option, length};
 ghost use Rattle.vpn_base.specs.Files.{Holding};
-ghost use Rattle.vpn_top.specs.Going.{Going, IsEnd, IsNext, Settled};
-ghost use Rattle.vpn_top.specs.Ends.{Ended, Turned, Went, fault_of};
+ghost use Rattle.vpn_top.specs.internal.Going.{Going, IsEnd, IsNext, Settled};
+ghost use Rattle.vpn_top.specs.internal.Ends.{Ended, Turned, Went, fault_of};
 
 use crate::refusal::Refusal;
 use crate::writing::write_all;
@@ -15,10 +15,10 @@ use vpn_base::{FileFault, Files, Or, Sink};
 const PIECE: usize = 65_536;
 
 // What a turn came to.
-#[derive(Clone, Copy)]
+#[derive(Drop)]
 pub(crate) enum Turn {
-    // So many bytes more were read, and what their lines print was written.
-    More(usize),
+    // So many bytes more were read, and what their lines print was written: the reader goes on.
+    More(RouteReader, usize),
     // The run has ended, by a refusal or by none.
     End(Option<Refusal>),
 }
@@ -41,40 +41,44 @@ fn settle<S: Sink>(text: &[u8], fault: Option<RouteFault>, out: &mut S) -> Optio
 }
 
 // Reads the last line, at the end of the file, and writes what it prints.
-fn finish<S: Sink>(alloc: Global, reader: &mut RouteReader, out: &mut S) -> Option<Refusal>
+fn finish<S: Sink>(alloc: Global, reader: RouteReader, out: &mut S) -> Option<Refusal>
     ensures ended { (holding : Holding) (before : Option (List ℕ)) (at files_before files_after : ℕ) →
-        IsEnd holding at → Going holding before (S.contents out.old) at reader.old →
+        IsEnd holding at → Going holding before (S.contents out.old) at reader →
         Ended result holding before (S.contents out.new)
         (record { files_before = files_before; files_after = files_after; out_before = S.faults out.old; out_after = S.faults out.new }) }
     ensures never_falls { S.faults out.old ≤ S.faults out.new }
 {
     match reader.finish(alloc) {
-        Ok(()) => settle(reader.printed(), None, out),
-        Err(Or::Why(fault)) => settle(reader.printed(), Some(fault), out),
+        Ok(text) => settle(text.as_bytes(), None, out),
+        Err(Or::Why(refused)) => settle(refused.printed.as_bytes(), Some(refused.fault), out),
         Err(Or::Memory) => Some(Refusal::NoMemory),
     }
 }
 
 // Reads a piece of the file, and writes what its lines print.
-fn read_piece<S: Sink>(alloc: Global, piece: &[u8], reader: &mut RouteReader, out: &mut S) -> Turn
+fn read_piece<S: Sink>(alloc: Global, piece: &[u8], reader: RouteReader, out: &mut S) -> Turn
     ensures turned { (holding : Holding) (before : Option (List ℕ)) (at files_before files_after : ℕ) →
-        IsNext holding at piece.now → Going holding before (S.contents out.old) at reader.old →
-        Turned result holding before (S.contents out.new) at reader.new
+        IsNext holding at piece.now → Going holding before (S.contents out.old) at reader →
+        Turned result holding before (S.contents out.new) at
         (record { files_before = files_before; files_after = files_after; out_before = S.faults out.old; out_after = S.faults out.new }) }
-    ensures more { Went result (λ n. (n ≡ length piece.now)
-        × (reader.new.bytes + length reader.new.kept ≡ reader.old.bytes + length reader.old.kept + n)
-        × (reader.new.bytes + length reader.new.kept ≤ 2 ^ 40)) }
+    ensures more { Went result (λ next n. (n ≡ length piece.now)
+        × (next.bytes + length next.kept ≡ reader.bytes + length reader.kept + n)
+        × (next.bytes + length next.kept ≤ 2 ^ 40)) }
     ensures never_falls { S.faults out.old ≤ S.faults out.new }
 {
     match reader.feed(alloc, piece) {
-        Ok(()) => match write_all(out, reader.printed()) {
+        Ok(mut reader) => match write_all(out, reader.printed()) {
             Ok(()) => {
                 reader.clear_printed();
-                Turn::More(piece.len())
+                Turn::More(reader, piece.len())
             }
             Err(_) => Turn::End(Some(Refusal::Output)),
         },
-        Err(Or::Why(fault)) => Turn::End(settle(reader.printed(), Some(fault), out)),
+        Err(Or::Why(refused)) => Turn::End(settle(
+            refused.printed.as_bytes(),
+            Some(refused.fault),
+            out,
+        )),
         Err(Or::Memory) => Turn::End(Some(Refusal::NoMemory)),
     }
 }
@@ -85,17 +89,17 @@ fn take_turn<F: Files, S: Sink>(
     name: &[u8],
     files: &mut F,
     out: &mut S,
-    reader: &mut RouteReader,
+    reader: RouteReader,
     at: u64,
     buffer: &mut [u8],
 ) -> Turn
     requires { 0 < length buffer.old }
-    ensures turned { (before : Option (List ℕ)) → Going (F.holds files.old name.now) before (S.contents out.old) at reader.old →
-        Turned result (F.holds files.old name.now) before (S.contents out.new) at reader.new
+    ensures turned { (before : Option (List ℕ)) → Going (F.holds files.old name.now) before (S.contents out.old) at reader →
+        Turned result (F.holds files.old name.now) before (S.contents out.new) at
         (record { files_before = F.faults files.old; files_after = F.faults files.new; out_before = S.faults out.old; out_after = S.faults out.new }) }
-    ensures more { Went result (λ n. (0 < n)
-        × (reader.new.bytes + length reader.new.kept ≡ reader.old.bytes + length reader.old.kept + n)
-        × (reader.new.bytes + length reader.new.kept ≤ 2 ^ 40)) }
+    ensures more { Went result (λ next n. (0 < n)
+        × (next.bytes + length next.kept ≡ reader.bytes + length reader.kept + n)
+        × (next.bytes + length next.kept ≤ 2 ^ 40)) }
     ensures kept { (other : List ℕ) → F.holds files.new other ≡ F.holds files.old other }
     ensures files_never_fall { F.faults files.old ≤ F.faults files.new }
     ensures out_never_falls { S.faults out.old ≤ S.faults out.new }
@@ -125,8 +129,11 @@ fn route_pieces<F: Files, S: Sink>(
     let mut reader = RouteReader::new(alloc);
     let mut at: u64 = 0;
     loop {
-        match take_turn(alloc, name, files, out, &mut reader, at, buffer) {
-            Turn::More(n) => at += n as u64,
+        match take_turn(alloc, name, files, out, reader, at, buffer) {
+            Turn::More(next, n) => {
+                reader = next;
+                at += n as u64;
+            }
             Turn::End(refusal) => return refusal,
         }
     }

@@ -1,47 +1,81 @@
+//! Runs over files and sinks in memory: one for each kind of answer. The sealed bytes are those of
+//! Python's `cryptography`.
+
 use super::*;
 use std::alloc::Global;
 use std::test::Fail;
 use vpn_base::{Bytes, MemFiles, MemSink, Text};
 
-mod checking;
-mod sealing;
-
-// A run: the words, what the files f and ta.key hold, the reads that fail, and the room of both outputs.
+// A run and its answer: the words, what the file f holds, the reads that fail, the room of either
+// sink, the exit status, the output and the error output.
 #[derive(Clone, Copy)]
 struct Case<'a> {
     words: &'a [&'a str],
     file: &'a [u8],
-    key: &'a [u8],
     failing: &'a [u64],
     room: usize,
-    err_room: usize,
-}
-
-fn of_file(file: &[u8]) -> Case<'_> {
-    Case {
-        words: &["route", "f"],
-        file,
-        key: b"",
-        failing: &[],
-        room: 4096,
-        err_room: 4096,
-    }
-}
-
-#[derive(Drop)]
-struct Answer {
     status: u8,
-    out: MemSink,
-    err: MemSink,
+    out: &'a [u8],
+    err: &'a [u8],
 }
 
-fn words_of(alloc: Global, case: &Case<'_>) -> Result<Vec<String>, Fail> {
-    let mut words = Vec::new(alloc);
-    for word in case.words {
-        words.push(String::from_str(alloc, word)?)?;
-    }
-    Ok(words)
-}
+const ROUTE: Case<'_> = Case {
+    words: &["route", "f"],
+    file: TWO_CLIENTS,
+    failing: &[],
+    room: 4096,
+    status: 0,
+    out: b"",
+    err: b"",
+};
+
+const CHECK: Case<'_> = Case {
+    words: &["check", "f"],
+    file: SERVER,
+    failing: &[],
+    room: 4096,
+    status: 0,
+    out: b"",
+    err: b"",
+};
+
+const TWO_CLIENTS: &[u8] = b"add 10.8.0.0/24 1\nadd 10.8.0.2/32 2\n\
+from 1 4500001400000000400000000a0800020a080001\n\
+from 2 4500001400000000400000000A0800020A080001\n";
+
+const TWO_OWNERS: &[u8] = b"add 10.9.0.0/16 1\nadd 10.9.0.0/16 2\nowner 10.9.0.5\nleave 2\n\
+owner 10.9.0.5\nleave 1\nowner 10.9.0.5";
+
+const SEALS: &[u8] = b"key 1 0 AES-128-GCM 000102030405060708090a0b0c0d0e0f a0a1a2a3a4a5a6a7\n\
+seal 1 0 7 4500001400000000400000000a0800020a080001\n\
+unseal 1 0 48000001000000073468731b109c7715413ddd8dbd4495d531733c89d39e400b1c0e5bc9ae82a5416ef2020a\n\
+unseal 1 0 48000001000000073468731b109c7715413ddd8dbd4495d531733c89d39e400b1c0e5bc9ae82a5416ef2020b\n\
+unseal 1 0 48\nseal 1 1 7 -\n";
+
+const SEALED: &[u8] =
+    b"sealed 48000001000000073468731b109c7715413ddd8dbd4495d531733c89d39e400b1c0e5bc9ae82a5416ef2020a\n\
+opened 7 4500001400000000400000000a0800020a080001\nnot-sealed\nmalformed\nno-key\n";
+
+const SERVER: &[u8] =
+    b"dev tun\nproto udp\nport 1194\nserver 10.8.0.0 255.255.255.0\ntopology subnet\n\
+keepalive 10 120\ntls-crypt ta.key\nca ca.crt\ncert s.crt\nkey s.key\npersist-key\nverb 3\n";
+
+const SERVER_PRINTED: &[u8] =
+    b"server 10.8.0.0 255.255.255.0\ndev tun\ntopology subnet\nproto udp\nport 1194\n\
+tls-crypt ta.key\nkeepalive 10 120\nmax-clients 1024\ndata-ciphers AES-256-GCM:AES-128-GCM\n\
+reneg-sec 3600\ntran-window 3600\nhand-window 60\ntls-timeout 2\nreplay-window 64 15\n\
+ca ca.crt\ncert s.crt\nkey s.key\n";
+
+const KEY: &[u8] = b"#\n-----BEGIN OpenVPN Static key V1-----\n\
+000102030405060708090a0b0c0d0e0f\n101112131415161718191a1b1c1d1e1f\n\
+202122232425262728292a2b2c2d2e2f\n303132333435363738393a3b3c3d3e3f\n\
+404142434445464748494a4b4c4d4e4f\n505152535455565758595a5b5c5d5e5f\n\
+606162636465666768696a6b6c6d6e6f\n707172737475767778797a7b7c7d7e7f\n\
+808182838485868788898a8b8c8d8e8f\n909192939495969798999a9b9c9d9e9f\n\
+a0a1a2a3a4a5a6a7a8a9aaabacadaeaf\nb0b1b2b3b4b5b6b7b8b9babbbcbdbebf\n\
+c0c1c2c3c4c5c6c7c8c9cacbcccdcecf\nd0d1d2d3d4d5d6d7d8d9dadbdcdddedf\n\
+e0e1e2e3e4e5e6e7e8e9eaebecedeeef\nf0f1f2f3f4f5f6f7f8f9fafbfcfdfeff\n\
+-----END OpenVPN Static key V1-----\n";
 
 fn hold(
     alloc: Global,
@@ -55,259 +89,104 @@ fn hold(
     Ok(())
 }
 
-fn files_of(alloc: Global, case: &Case<'_>) -> Result<MemFiles, Fail> {
+fn outside(alloc: Global, case: &Case<'_>) -> Result<Outside<MemFiles, MemSink, MemSink>, Fail> {
     let mut held = Vec::new(alloc);
     hold(alloc, &mut held, b"f", case.file)?;
-    hold(alloc, &mut held, b"ta.key", case.key)?;
-    let failing = case.failing.to_vec(alloc)?;
-    Ok(MemFiles::new(held, failing))
+    hold(alloc, &mut held, b"ta.key", KEY)?;
+    let files = MemFiles::new(held, case.failing.to_vec(alloc)?);
+    let out = MemSink::new(alloc, case.room, Vec::new(alloc))?;
+    let err = MemSink::new(alloc, case.room, Vec::new(alloc))?;
+    Ok(Outside { files, out, err })
 }
 
-fn sink_of(alloc: Global, room: usize) -> Result<MemSink, Fail> {
-    Ok(MemSink::new(alloc, room, Vec::new(alloc))?)
-}
-
-fn run_case(alloc: Global, case: &Case<'_>) -> Result<Answer, Fail> {
-    let words = words_of(alloc, case)?;
-    let files = files_of(alloc, case)?;
-    let out = sink_of(alloc, case.room)?;
-    let err = sink_of(alloc, case.err_room)?;
-    let (status, outside) = vpn_main(alloc, words.as_slice(), Outside { files, out, err });
-    let Outside { files: _, out, err } = outside;
-    Ok(Answer { status, out, err })
-}
-
-const TWO_CLIENTS: &[u8] = b"add 10.8.0.0/24 1\nadd 10.8.0.2/32 2\n\
-from 1 4500001400000000400000000a0800020a080001\n\
-from 2 4500001400000000400000000A0800020A080001\n";
-
-const TWO_OWNERS: &[u8] = b"add 10.9.0.0/16 1\nadd 10.9.0.0/16 2\nowner 10.9.0.5\nleave 2\n\
-owner 10.9.0.5\nleave 1\nowner 10.9.0.5";
-
-#[test]
-fn whole_files(rt: HostRuntime) -> Result<(), Fail> {
-    let cases: [(&[u8], &[u8]); 10] = [
-        (b"", b""),
-        (b"\n\r\n# a comment\n", b""),
-        (TWO_CLIENTS, b"drop bad-source 2\ndevice\n"),
-        (TWO_OWNERS, b"owner 2\nowner 1\nowner none\n"),
-        (b"add 10.8.0.0/24 1\r\nowner 10.8.0.1\r\n", b"owner 1\n"),
-        (b"from 0 -\ndevice -", b"drop not-ip\ndrop not-ip\n"),
-        (
-            b"from 18446744073709551615 4500001400000000400000000a0800020a080001",
-            b"drop bad-source none\n",
-        ),
-        (
-            b"subnet 10.8.0.0/24\ndevice 4500001400000000400000000a0800010a0800ff\n\
-            subnet 10.8.0.0/23\ndevice 4500001400000000400000000a0800010a0800ff\n",
-            b"drop multicast\ndrop no-route\n",
-        ),
-        (
-            b"add 10.8.0.2/32 1\nadd 10.8.0.3/32 2\n\
-            from 1 4500001400000000400000000a0800020a080003\nclient-to-client\n\
-            from 1 4500001400000000400000000a0800020a080003\n\
-            device 4500001400000000400000000a0800020a080003\n",
-            b"device\nto 2\nto 2\n",
-        ),
-        (
-            b"owner 0.0.0.0\nadd 0.0.0.0/0 7\nowner 255.255.255.255",
-            b"owner none\nowner 7\n",
-        ),
-    ];
-    for (i, (file, want)) in cases.iter().enumerate() {
-        let answer = run_case(rt.alloc(), &of_file(file))?;
-        assert_eq!(rt; answer.status, 0, "case {i}");
-        assert_eq!(rt; answer.out.held(), *want, "case {i}");
-        assert_eq!(rt; answer.err.held(), b"".as_slice(), "case {i}");
+fn words(alloc: Global, case: &Case<'_>) -> Result<Vec<String>, Fail> {
+    let mut words = Vec::new(alloc);
+    for word in case.words {
+        words.push(String::from_str(alloc, word)?)?;
     }
-    Ok(())
+    Ok(words)
 }
 
 #[test]
-fn faulty_lines(rt: HostRuntime) -> Result<(), Fail> {
-    let cases: [(&str, &str); 44] = [
-        ("subnet", "words"),
-        ("subnet 10.8.0.0/24 1", "words"),
-        ("subnet 10.8.0.1/24", "address"),
-        ("subnet 10.8.0.0", "address"),
-        ("subnet 10.8.0.0/33", "address"),
-        ("subnet 10.8.0.0/024", "address"),
-        ("subnet 10.8.0.0/24/1", "address"),
-        ("subnet ", "address"),
-        ("client-to-client 1", "words"),
-        ("client-to-client ", "words"),
-        ("add 10.8.0.0/24", "words"),
-        ("add 10.8.0.0/24 1 ", "words"),
-        ("add 10.8.0.0/24  1", "words"),
-        ("add 10.8.0.0/24 x", "number"),
-        ("add 10.8.0.0/24 01", "number"),
-        ("add 10.8.0.0/24 18446744073709551616", "number"),
-        ("add 10.8.0.256/24 x", "number"),
-        ("add 10.8.0.256/32 1", "address"),
-        ("leave", "words"),
-        ("leave 1 2", "words"),
-        ("leave -1", "number"),
-        ("leave ", "number"),
-        ("owner", "words"),
-        ("owner 1.2.3.4 5", "words"),
-        ("owner 1.2.3", "address"),
-        ("owner 01.2.3.4", "address"),
-        ("from", "words"),
-        ("from 1", "words"),
-        ("from 1 00 00", "words"),
-        ("from x 00", "number"),
-        ("from x 0", "number"),
-        ("from 1 0", "digits"),
-        ("from 1 0g", "digits"),
-        ("from 1 ", "digits"),
-        ("from 1 --", "digits"),
-        ("device", "words"),
-        ("device 00 00", "words"),
-        ("device 000", "digits"),
-        ("device ", "digits"),
-        ("Key 1 0 AES-128-GCM 00 00", "words"),
-        ("Add 10.8.0.0/24 1", "words"),
-        (" add 10.8.0.0/24 1", "words"),
-        (" ", "words"),
-        ("\t", "words"),
+fn answers(rt: HostRuntime) -> Result<(), Fail> {
+    let cases = [
+        Case {
+            out: b"drop bad-source 2\ndevice\n",
+            ..ROUTE
+        },
+        Case {
+            file: TWO_OWNERS,
+            out: b"owner 2\nowner 1\nowner none\n",
+            ..ROUTE
+        },
+        Case {
+            file: SEALS,
+            out: SEALED,
+            ..ROUTE
+        },
+        Case {
+            file: b"owner 1.2.3.4\n#\nowner 1.2.3\n",
+            status: 2,
+            out: b"owner none\n",
+            err: b"line 3: address\n",
+            ..ROUTE
+        },
+        Case {
+            words: &[],
+            status: 1,
+            err: b"usage: vpn route|check|replay|server|client|lab\n",
+            ..ROUTE
+        },
+        Case {
+            words: &["route", "g"],
+            status: 3,
+            err: b"missing g\n",
+            ..ROUTE
+        },
+        Case {
+            failing: &[1],
+            status: 3,
+            out: b"drop bad-source 2\ndevice\n",
+            err: b"unreadable f\n",
+            ..ROUTE
+        },
+        Case {
+            room: 20,
+            status: 6,
+            out: b"drop bad-source 2\nde",
+            err: b"output\n",
+            ..ROUTE
+        },
+        Case {
+            out: SERVER_PRINTED,
+            ..CHECK
+        },
+        Case {
+            file: b"dev tun\n\n\n\n\n\ncomp-lzo\n",
+            status: 2,
+            err: b"line 7: refused comp-lzo\n",
+            ..CHECK
+        },
+        Case {
+            file: b"client\ndev tun\nremote 192.0.2.1\ntls-crypt f\n",
+            status: 2,
+            err: b"key line 4: no-begin\n",
+            ..CHECK
+        },
+        Case {
+            failing: &[2],
+            status: 3,
+            err: b"unreadable ta.key\n",
+            ..CHECK
+        },
     ];
-    for (line, kind) in cases {
-        let file = format!(in rt.alloc(); "owner 1.2.3.4\n#\n{line}\nowner 1.2.3.4\n")?;
-        let want = format!(in rt.alloc(); "line 3: {kind}\n")?;
-        let answer = run_case(rt.alloc(), &of_file(file.as_bytes()))?;
-        assert_eq!(rt; answer.status, 2, "{line:?}");
-        assert_eq!(rt; answer.out.held(), b"owner none\n".as_slice(), "{line:?}");
-        assert_eq!(rt; answer.err.held(), want.as_bytes(), "{line:?}");
-    }
-    Ok(())
-}
-
-#[test]
-fn long_lines(rt: HostRuntime) -> Result<(), Fail> {
-    let alloc = rt.alloc();
-    for (length, end, want) in [
-        (140_000usize, "\n", 0u8),
-        (140_000, "\r\n", 0),
-        (140_000, "", 0),
-        (140_001, "\n", 2),
-        (140_001, "\r\n", 2),
-        (140_001, "", 2),
-        (300_000, "\n", 2),
-    ] {
-        let mut file = Vec::new(alloc);
-        file.extend_from_slice(b"owner 1.2.3.4\n")?;
-        for _ in 0..length {
-            file.push(b'#')?;
-        }
-        file.extend_from_slice(end.as_bytes())?;
-        let answer = run_case(alloc, &of_file(file.as_slice()))?;
-        assert_eq!(rt; answer.status, want, "{length} {end:?}");
-        assert_eq!(rt; answer.out.held(), b"owner none\n".as_slice());
-        let told: &[u8] = if want == 0 { b"" } else { b"line 2: long\n" };
-        assert_eq!(rt; answer.err.held(), told, "{length} {end:?}");
-    }
-    Ok(())
-}
-
-#[test]
-fn refusals(rt: HostRuntime) -> Result<(), Fail> {
-    let usage: &[u8] = b"usage: vpn route|check|replay|server|client|lab\n";
-    let good = of_file(TWO_CLIENTS);
-    let cases: [(Case<'_>, u8, &[u8], &[u8]); 10] = [
-        (
-            Case {
-                words: &[],
-                ..of_file(b"")
-            },
-            1,
-            b"",
-            usage,
-        ),
-        (
-            Case {
-                words: &["route"],
-                ..of_file(b"")
-            },
-            1,
-            b"",
-            usage,
-        ),
-        (
-            Case {
-                words: &["route", "f", "f"],
-                ..of_file(b"")
-            },
-            1,
-            b"",
-            usage,
-        ),
-        (
-            Case {
-                words: &["Route", "f"],
-                ..of_file(b"")
-            },
-            1,
-            b"",
-            usage,
-        ),
-        (
-            Case {
-                words: &["Check", "f"],
-                ..of_file(b"")
-            },
-            1,
-            b"",
-            usage,
-        ),
-        (
-            Case {
-                words: &["route", "g"],
-                ..of_file(b"")
-            },
-            3,
-            b"",
-            b"missing g\n",
-        ),
-        (
-            Case {
-                failing: &[0],
-                ..of_file(TWO_CLIENTS)
-            },
-            3,
-            b"",
-            b"unreadable f\n",
-        ),
-        (
-            Case {
-                failing: &[1],
-                ..of_file(TWO_CLIENTS)
-            },
-            3,
-            b"drop bad-source 2\ndevice\n",
-            b"unreadable f\n",
-        ),
-        (
-            Case { room: 20, ..good },
-            6,
-            b"drop bad-source 2\nde",
-            b"output\n",
-        ),
-        (
-            Case {
-                words: &[],
-                err_room: 6,
-                ..of_file(b"")
-            },
-            6,
-            b"",
-            b"usage:",
-        ),
-    ];
-    for (i, (case, status, out, err)) in cases.iter().enumerate() {
-        let answer = run_case(rt.alloc(), case)?;
-        assert_eq!(rt; answer.status, *status, "case {i}");
-        assert_eq!(rt; answer.out.held(), *out, "case {i}");
-        assert_eq!(rt; answer.err.held(), *err, "case {i}");
+    for (i, case) in cases.iter().enumerate() {
+        let alloc = rt.alloc();
+        let words = words(alloc, case)?;
+        let (status, after) = vpn_main(alloc, &words, outside(alloc, case)?);
+        assert_eq!(rt; status, case.status, "case {i}");
+        assert_eq!(rt; after.out.held(), case.out, "case {i}");
+        assert_eq!(rt; after.err.held(), case.err, "case {i}");
     }
     Ok(())
 }

@@ -9,10 +9,11 @@ ghost use Rattle.vpn_text.specs.declared.config.ConfigFault.{ConfigFault};
 ghost use Rattle.tls_crypt.specs.declared.static_key.KeyFault.{KeyFault};
 ghost use Rattle.ovpn_config.specs.declared.settings.Settings.{Settings};
 ghost use Rattle.ovpn_config.specs.declared.settings.KeyPlace.TheVariants.{Named};
-ghost use Rattle.vpn_top.specs.Words.{Check, Route, asked, command_of};
+ghost use Rattle.vpn_top.specs.Words.{Check, Route, command_of};
+ghost use Rattle.vpn_top.specs.internal.Requests.{asked};
 ghost use Rattle.vpn_top.specs.Configuration.{IsConfigured, IsKeyed, IsMisconfigured, IsMiskeyed};
 ghost use Rattle.vpn_top.specs.Answer.{Answered, Finished, IsCutOff, exit_status as status_for};
-ghost use Rattle.vpn_top.specs.Told.{Tells};
+ghost use Rattle.vpn_top.specs.internal.Told.{Tells};
 
 use crate::check::check;
 use crate::refusal::Refusal;

@@ -1,6 +1,6 @@
 use Rattle.std.proofs.Common.{ap, ◌∙◌}
 use Rattle.aes_core.specs.Cipher.{cipher_under}
-use Rattle.aes_core.specs.Schedule.{schedule_words}
+use Rattle.aes_core.specs.internal.Schedule.{schedule_words}
 use Rattle.aes_core.proofs.KeyStream.{cipher_of}
 use Rattle.aes_core.proofs.AesKey.block.Goals as goal
 

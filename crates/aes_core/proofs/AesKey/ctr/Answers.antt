@@ -3,8 +3,8 @@ use Rattle.std.proofs.lemmas.Nat.{and_mask}
 use Rattle.std.specs.Int.{to_be_bytes, w128}
 use Rattle.aes_core.specs.Cipher.{cipher_under}
 use Rattle.aes_core.specs.CounterMode.{output_blocks}
-use Rattle.aes_core.specs.Schedule.{schedule_words}
-use Rattle.aes_core.specs.SharedRounds.{two_rounds}
+use Rattle.aes_core.specs.internal.Schedule.{schedule_words}
+use Rattle.aes_core.specs.internal.SharedRounds.{two_rounds}
 use Rattle.aes_core.proofs.InPlace.{xor_bytes-nil}
 use Rattle.aes_core.proofs.KeyStream.{counter_output, streamed_all, streamed_next}
 use Rattle.aes_core.proofs.RoundSteps.{two_rounds_of}

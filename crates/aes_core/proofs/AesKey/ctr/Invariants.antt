@@ -1,7 +1,7 @@
 use Rattle.std.proofs.Common.{◌≡◌, ◌+◌, ◌%◌, ◌^◌}
 use Rattle.aes_core.specs.CounterMode.{output_blocks}
 use Rattle.aes_core.specs.Field.{xor_bytes}
-use Rattle.aes_core.specs.SharedRounds.{IsShared}
+use Rattle.aes_core.specs.internal.SharedRounds.{IsShared}
 use Rattle.aes_core.proofs.AesKey.ctr.Given as goal
 
 abbrev pub invariant-turns : goal.invariant-turns

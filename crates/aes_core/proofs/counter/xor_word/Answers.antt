@@ -1,6 +1,6 @@
 use Rattle.std.proofs.Common.{◌≡◌, suc, ◌+◌, ◌++◌, bit_xor, get_or, set, take, drop, refl, ap, ◌∙◌, arith, length-drop}
 use Rattle.aes_core.specs.Field.{xor_bytes}
-use Rattle.aes_core.specs.Words.{word_bytes}
+use Rattle.aes_core.specs.internal.Words.{word_bytes}
 use Rattle.aes_core.proofs.InPlace.{set_four, xor_bytes-front}
 use Rattle.aes_core.proofs.WordBytes.{word_bytes-xor}
 use Rattle.aes_core.proofs.counter.xor_word.Goals as goal

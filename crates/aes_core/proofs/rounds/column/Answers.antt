@@ -2,7 +2,7 @@ use Rattle.std.proofs.Common.{ap, ◌∙◌}
 use Rattle.aes_core.specs.Cipher.{mixed_column}
 use Rattle.aes_core.specs.Field.{xor_bytes}
 use Rattle.aes_core.specs.SBox.{sbox}
-use Rattle.aes_core.specs.Words.{word_bytes}
+use Rattle.aes_core.specs.internal.Words.{word_bytes}
 use Rattle.aes_core.proofs.Columns.{column_of, xor_reversed}
 use Rattle.aes_core.proofs.rounds.column.Goals as goal
 

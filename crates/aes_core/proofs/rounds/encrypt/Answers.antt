@@ -1,6 +1,6 @@
 use Rattle.std.proofs.Common.{arith}
-use Rattle.aes_core.specs.Schedule.{schedule_words}
-use Rattle.aes_core.specs.Words.{state_bytes}
+use Rattle.aes_core.specs.internal.Schedule.{schedule_words}
+use Rattle.aes_core.specs.internal.Words.{state_bytes}
 use Rattle.aes_core.proofs.RoundSteps.{round_key_of, rounds_next, rounds_none}
 use Rattle.aes_core.proofs.rounds.encrypt.Goals as goal
 

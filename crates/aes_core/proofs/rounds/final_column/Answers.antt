@@ -1,7 +1,7 @@
 use Rattle.std.proofs.Common.{[], ◌∷◌, ◌∙◌, arith}
 use Rattle.aes_core.specs.Field.{xor_bytes}
 use Rattle.aes_core.specs.SBox.{sbox}
-use Rattle.aes_core.specs.Words.{word_bytes}
+use Rattle.aes_core.specs.internal.Words.{word_bytes}
 use Rattle.aes_core.proofs.WordBytes.{word_bytes-xor, word_bytes_of}
 use Rattle.aes_core.proofs.rounds.final_column.Goals as goal
 

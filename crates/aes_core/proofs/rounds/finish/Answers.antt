@@ -1,5 +1,5 @@
 use Rattle.std.proofs.Common.{◌≡◌, ◌+◌, ◌-◌, ◌*◌, arith}
-use Rattle.aes_core.specs.Schedule.{schedule_words}
+use Rattle.aes_core.specs.internal.Schedule.{schedule_words}
 use Rattle.aes_core.proofs.RoundSteps.{round_key_of, rounds_last, rounds_next}
 use Rattle.aes_core.proofs.rounds.finish.Goals as goal
 

@@ -1,7 +1,7 @@
 use Rattle.std.proofs.Common.{◌≡◌, ℕ, ◌-◌, ◌*◌, List}
 use Rattle.aes_core.specs.Cipher.{state_after}
-use Rattle.aes_core.specs.Schedule.{schedule_words}
-use Rattle.aes_core.specs.Words.{state_bytes}
+use Rattle.aes_core.specs.internal.Schedule.{schedule_words}
+use Rattle.aes_core.specs.internal.Words.{state_bytes}
 use Rattle.aes_core.proofs.rounds.finish.Given as goal
 
 abbrev pub invariant-pairs : goal.invariant-pairs

@@ -1,7 +1,7 @@
 use Rattle.std.proofs.Common.{[], ◌∷◌, ap, ◌∙◌, arith, sym}
 use Rattle.aes_core.specs.Field.{xor_bytes}
 use Rattle.aes_core.specs.KeyExpansion.{rot_word, sub_word}
-use Rattle.aes_core.specs.Words.{word_bytes}
+use Rattle.aes_core.specs.internal.Words.{word_bytes}
 use Rattle.aes_core.proofs.Expansion.{added_word_first}
 use Rattle.aes_core.proofs.WordBytes.{word_bytes-xor, word_bytes_of}
 use Rattle.aes_core.proofs.schedule.added_word.Goals as goal

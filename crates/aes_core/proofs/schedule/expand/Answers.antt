@@ -2,7 +2,7 @@ use Rattle.std.proofs.Common.{◌≡◌, ◌+◌, ◌*◌, ◌/◌, length, bit_
 use Rattle.std.specs.Prelude.{map, flat_map}
 use Rattle.std.proofs.lemmas.List.{length-set, take-set-le}
 use Rattle.aes_core.specs.KeyExpansion.{key_expansion, key_words}
-use Rattle.aes_core.specs.Words.{word_bytes}
+use Rattle.aes_core.specs.internal.Words.{word_bytes}
 use Rattle.aes_core.proofs.Expansion.{bytes_next, later_word, next_word_first, words_next}
 use Rattle.aes_core.proofs.schedule.expand.Goals as goal
 

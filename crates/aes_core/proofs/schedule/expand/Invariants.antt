@@ -1,7 +1,7 @@
 use Rattle.std.proofs.Common.{◌≡◌, ◌*◌, length, take}
 use Rattle.std.specs.Prelude.{map, flat_map}
 use Rattle.aes_core.specs.KeyExpansion.{key_words}
-use Rattle.aes_core.specs.Words.{word_bytes}
+use Rattle.aes_core.specs.internal.Words.{word_bytes}
 use Rattle.aes_core.proofs.schedule.expand.Given as goal
 
 abbrev pub invariant-key : goal.invariant-key

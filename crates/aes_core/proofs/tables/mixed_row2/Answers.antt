@@ -1,5 +1,5 @@
 use Rattle.std.proofs.Common.{ap, get_or, ◌∙◌, ◌+◌, arith}
-use Rattle.aes_core.specs.Words.{word_bytes}
+use Rattle.aes_core.specs.internal.Words.{word_bytes}
 use Rattle.aes_core.proofs.TableEntries.{mixed_at}
 use Rattle.aes_core.proofs.tables.mixed_row2.Goals as goal
 

@@ -1,6 +1,7 @@
 use Rattle.std.proofs.Common.{◌≡◌, length, nat_eq}
 use Rattle.std.specs.List.{slice_split}
-use Rattle.config_directives.specs.Arguments.{ciphers_in, policy_of, with_more}
+use Rattle.config_directives.specs.Arguments.{ciphers_in, policy_of}
+use Rattle.config_directives.specs.internal.Ciphers.{with_more}
 use Rattle.config_directives.proofs.arguments.policy_of.Given as goal
 
 -- the ciphers so far made the policy

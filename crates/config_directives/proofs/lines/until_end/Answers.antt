@@ -1,7 +1,8 @@
 use Rattle.std.proofs.Common.{sym, ap, refl, ◌∙◌, ◌≡◌, ◌+◌, ◌-◌, ◌||◌, ◌++◌, ◌∷◌, [], List, ℕ, length, arith}
 use Rattle.std.specs.Prelude.{option_map, bytes_eq, Some}
 use Rattle.vpn_base.specs.Lines.{lines_of, size}
-use Rattle.config_directives.specs.Entries.{is_over, until_end}
+use Rattle.vpn_text.specs.ConfigLine.{is_over}
+use Rattle.config_directives.specs.Entries.{until_end}
 use Rattle.config_directives.proofs.BlockBytes.{until_found, until_passed, until_over, behind_line, in_front_of_none, no_bytes}
 use Rattle.config_directives.proofs.lines.until_end.Goals as goal
 

@@ -1,6 +1,6 @@
 use Rattle.std.proofs.Common.{◌≡◌, ℕ, ◌*◌, ◌%◌, ◌^◌}
 use Rattle.ghash_core.specs.Field.{product}
-use Rattle.ghash_core.specs.Multiples.{AreMultiples}
+use Rattle.ghash_core.specs.internal.Multiples.{AreMultiples}
 use Rattle.ghash_core.proofs.hash_key.half_product.Given as goal
 
 abbrev pub invariant-places : goal.invariant-places

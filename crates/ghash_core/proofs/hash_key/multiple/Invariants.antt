@@ -1,6 +1,6 @@
 use Rattle.std.proofs.Common.{◌≡◌, ℕ, ◌*◌, ◌/◌, ◌%◌, ◌^◌}
 use Rattle.ghash_core.specs.Field.{product}
-use Rattle.ghash_core.specs.Multiples.{ArePowers}
+use Rattle.ghash_core.specs.internal.Multiples.{ArePowers}
 use Rattle.ghash_core.proofs.hash_key.multiple.Given as goal
 
 abbrev pub invariant-bits : goal.invariant-bits

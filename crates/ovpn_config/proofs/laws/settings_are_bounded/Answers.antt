@@ -1,15 +1,5 @@
-use Rattle.ovpn_config.proofs.CleanText.{Laws}
 use Rattle.ovpn_config.proofs.RoundBounds.{bounded}
 use Rattle.ovpn_config.proofs.laws.settings_are_bounded.Goals as goal
 
 pub returns : goal.returns
-returns c =
-    let laws : Laws = record {
-      decimals = c.reads_decimal_again.ensures;
-      addresses = c.reads_ip4_again.ensures;
-      masks = c.reads_mask_again.ensures;
-      clean_lines = c.reads_no_control.ensures.line;
-      clean_words = c.reads_no_control.ensures.words;
-      words = c.reads_words_again.ensures;
-    } in
-    λ text s read. bounded laws text s read
+returns c = λ text s read. bounded c.texts_are_read_again.ensures text s read

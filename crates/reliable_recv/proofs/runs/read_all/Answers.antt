@@ -14,6 +14,7 @@ loop-id-init c = record {
 }
 
 pub loop-id-preserved : goal.loop-id-preserved
+unfolding Stands
 loop-id-preserved c =
     let i = c.loop-id.id-index in
     let arrivals : List Arrival = c.args.arrivals.now in
@@ -34,6 +35,6 @@ loop-id-preserved c =
           (subst (λ (t : List Arrival). Stands c.read_in_order.new.side (reached t)) (sym (all_taken-push xs [] a))
           (subst (λ (h : Receiving). Stands c.read_in_order.new.side h) (reached_next taken a) (c.in_ok-read_in_order.ensures.stands middle put)));
       text =
-          c.in_ok-read_in_order.ensures.text middle put (c.loop-id.invariant.text ∙ text_of_is xs ∙ text_stays c.loop-id.side taken a c.loop-id.invariant.stands)
+          c.in_ok-read_in_order.ensures.text middle put (c.loop-id.invariant.text ∙ text_of_is xs ∙ text_stays c.loop-id.side.kept taken a c.loop-id.invariant.stands)
           ∙ sym (ap text_of more ∙ told);
     }

@@ -7,10 +7,10 @@ use Rattle.reliable_recv.proofs.runs.read_in_order.Given as goal
 
 abbrev pub invariant-payloads : goal.invariant-payloads
 invariant-payloads l = record {
-  waiting : l.side.waiting ≡ l.fn.side.waiting;
-  stands : (h : Receiving) → Stands l.fn.side h → Stands l.side (read_to l.side.read h);
-  text : (h : Receiving) → Stands l.fn.side h → l.fn.text.items ≡ text_read h → l.text.items ≡ text_read (read_to l.side.read h);
+  waiting : l.side.kept.waiting ≡ l.fn.side.kept.waiting;
+  stands : (h : Receiving) → Stands l.fn.side h → Stands l.side (read_to l.side.kept.read h);
+  text : (h : Receiving) → Stands l.fn.side h → l.fn.text.items ≡ text_read h → l.text.items ≡ text_read (read_to l.side.kept.read h);
 }
 
 abbrev pub decreases-payloads : goal.decreases-payloads
-decreases-payloads l = 2 ^ 32 - l.side.read
+decreases-payloads l = 2 ^ 32 - l.side.kept.read

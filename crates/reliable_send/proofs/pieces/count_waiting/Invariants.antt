@@ -1,5 +1,5 @@
 use Rattle.std.proofs.Common.{◌≡◌, ◌+◌, drop}
-use Rattle.reliable_send.specs.Sides.{waiting}
+use Rattle.reliable_send.specs.internal.Sound.{waiting}
 use Rattle.reliable_send.proofs.pieces.count_waiting.Given as goal
 
 abbrev pub invariant-loop-piece : goal.invariant-loop-piece

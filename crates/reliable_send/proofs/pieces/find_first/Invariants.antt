@@ -1,5 +1,5 @@
 use Rattle.std.proofs.Common.{◌≡◌, ◌+◌, drop}
-use Rattle.reliable_send.specs.Sides.{found}
+use Rattle.reliable_send.specs.internal.Walks.{found}
 use Rattle.reliable_send.proofs.pieces.find_first.Given as goal
 
 abbrev pub invariant-loop-i : goal.invariant-loop-i

@@ -1,5 +1,5 @@
 use Rattle.opcode_codec.specs.DataPacket.{data_form}
-use Rattle.sealed_packet.specs.Parts.{length_read, readable, with_text}
+use Rattle.sealed_packet.proofs.Parts.{length_read, readable, with_text}
 use Rattle.sealed_packet.proofs.head.read_head.Goals as goal
 
 pub returns-in-Ok-Inner-clause-exact : goal.returns-in-Ok-Inner-clause-exact

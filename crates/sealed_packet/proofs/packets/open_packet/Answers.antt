@@ -1,11 +1,16 @@
-use Rattle.std.proofs.Common.{ℕ, List, ◌-◌, length, drop, refl, sym, ap, subst, ◌∙◌}
+use Rattle.std.proofs.Common.{arith, rules, ℕ, List, ◌-◌, length, drop, refl, sym, ap, subst, ◌∙◌}
 use Rattle.std.proofs.lemmas.List.{take_rest}
 use Rattle.gcm_seal.specs.Sealed.{Sealed}
-use Rattle.sealed_packet.specs.Head.{data_form_of}
+use Rattle.sealed_packet.specs.internal.Head.{data_form_of}
 use Rattle.sealed_packet.specs.SealedPacket.{Opens}
-use Rattle.sealed_packet.specs.Laws.{form_opened, is_form_opened, only_authentic, readable_opened}
+use Rattle.sealed_packet.proofs.Laws.{form_opened, is_form_opened, only_authentic, readable_opened}
 use Rattle.sealed_packet.proofs.Opening.{authentic, opened_part, same_sealed, unchanged_part}
-use Rattle.sealed_packet.specs.Parts.{readable}
+use Rattle.sealed_packet.proofs.Parts.{readable}
+use Rattle.std.proofs.lemmas.Slice.{take-put_mid_below}
+use borrow.Rule.Slice.PartMut.{put_mid}
+use Rattle.byte_texts.proofs.Parts.{IsBytes-drop}
+use Rattle.byte_texts.specs.Texts.{IsBytes}
+use Rattle.sealed_packet.proofs.Searched.{not_opening, opens_opening}
 use Rattle.sealed_packet.proofs.packets.open_packet.Goals as goal
 
 pub returns-in_default-clause-refused : goal.returns-in_default-clause-refused
@@ -48,3 +53,27 @@ pub returns-in-Err-clause-unchanged : goal.returns-in-Err-clause-unchanged
 returns-in-Err-clause-unchanged g c =
     unchanged_part c.args.datagram.now c.unseal.new.bytes (length c.args.datagram.now - 24) refl c.in-Some.ensures.long
     (c.in-Err.ensures.unchanged ∙ take_rest c.args.datagram.now 24)
+
+pub returns-in_default-clause-exact : goal.returns-in_default-clause-exact
+returns-in_default-clause-exact g c =
+    let small : IsBytes c.args.datagram.now = search rules in
+    not_opening (g.C.Aead.sealed c.args.cipher.now) c.args.implicit c.args.kid c.args.datagram.now small
+    (λ id inner bytes. returns-in_default-clause-refused g c id inner)
+
+pub returns-in-Ok-clause-exact : goal.returns-in-Ok-clause-exact
+returns-in-Ok-clause-exact g c =
+    let datagram = c.args.datagram.now in
+    let after = put_mid 24 (length datagram - 24) datagram c.unseal.new.bytes in
+    let small : IsBytes after = search rules in
+    opens_opening (g.C.Aead.sealed c.args.cipher.now) c.args.implicit c.args.kid c.in-Some.head.id datagram (drop 24 after)
+    (g.met.C.Aead.lengths c.args.cipher.now) (g.met.C.Aead.one_plain c.args.cipher.now) (IsBytes-drop 24 after small) (returns-in-Ok-clause-opened g c)
+
+pub returns-in-Ok-clause-front : goal.returns-in-Ok-clause-front
+returns-in-Ok-clause-front g c =
+    take-put_mid_below 24 (length c.args.datagram.now - 24) c.args.datagram.now c.unseal.new.bytes 24 (omega arith) c.in-Some.ensures.long
+
+pub returns-in-Err-clause-exact : goal.returns-in-Err-clause-exact
+returns-in-Err-clause-exact g c =
+    let small : IsBytes c.args.datagram.now = search rules in
+    not_opening (g.C.Aead.sealed c.args.cipher.now) c.args.implicit c.args.kid c.args.datagram.now small
+    (λ id inner bytes. returns-in-Err-clause-refused g c id inner)

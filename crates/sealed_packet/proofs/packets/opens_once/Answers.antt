@@ -1,4 +1,4 @@
-use Rattle.sealed_packet.specs.Laws.{one_opens}
+use Rattle.sealed_packet.proofs.Laws.{one_opens}
 use Rattle.sealed_packet.proofs.packets.opens_once.Goals as goal
 
 pub returns : goal.returns

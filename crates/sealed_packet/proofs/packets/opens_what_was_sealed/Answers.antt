@@ -1,4 +1,4 @@
-use Rattle.sealed_packet.specs.Laws.{sealed_opens, sealed_peer}
+use Rattle.sealed_packet.proofs.Laws.{sealed_opens, sealed_peer}
 use Rattle.sealed_packet.proofs.packets.opens_what_was_sealed.Goals as goal
 
 pub returns : goal.returns

@@ -1,5 +1,5 @@
 use Rattle.std.proofs.Common.{◌≡◌, ◌≤◌, ◌++◌, take, map, vec_capacity}
-use Rattle.vpn_links.specs.Store.{kept_datagram}
+use Rattle.vpn_links.specs.internal.Store.{kept_datagram}
 use Rattle.vpn_links.proofs.outbox.move_staged.Given as goal
 
 -- those so far stand behind the effects

@@ -1,5 +1,5 @@
 use Rattle.std.proofs.Common.{List, ℕ, ap, ◌∙◌, refl, length}
-use Rattle.vpn_links.specs.Store.{part}
+use Rattle.vpn_links.specs.internal.Store.{part}
 use Rattle.vpn_links.proofs.Parts.{part_end}
 use Rattle.vpn_links.proofs.outbox.put.Goals as goal
 

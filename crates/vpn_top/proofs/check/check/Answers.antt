@@ -1,7 +1,7 @@
 use Rattle.std.proofs.Common.{ℕ, List, subst}
 use Rattle.vpn_base.specs.Files.{Holding}
 use Rattle.vpn_top.specs.Configuration.{Keyed}
-use Rattle.vpn_top.specs.Refused.{refusal_in, subject_in}
+use Rattle.vpn_top.specs.internal.Refused.{refusal_in, subject_in}
 use Rattle.vpn_top.proofs.Checks.{check_printed}
 use Rattle.vpn_top.proofs.check.check.Goals as goal
 

@@ -1,7 +1,7 @@
 use Rattle.std.proofs.Common.{subst}
 use Rattle.vpn_base.specs.Files.{Holding}
-use Rattle.vpn_top.specs.Ends.{Ended}
-use Rattle.vpn_top.specs.Going.{Going}
+use Rattle.vpn_top.specs.internal.Ends.{Ended}
+use Rattle.vpn_top.specs.internal.Going.{Going}
 use Rattle.vpn_top.proofs.Counting.{ended_since}
 use Rattle.vpn_top.proofs.route.route_pieces.Goals as goal
 
@@ -13,10 +13,10 @@ returns-in-End-clause-ended g c =
     let files = g.F.Files.faults in
     let out = g.S.Sink.faults in
     let end : Ended c.in-End.refusal holding before (contents c.take_turn.new.out)
-    (record { files_before = files c.loop-n.files; files_after = files c.take_turn.new.files; out_before = out c.loop-n.out; out_after = out c.take_turn.new.out }) =
-    subst (λ (h : Holding). Going h before (contents c.loop-n.out) c.loop-n.at c.loop-n.reader →
+    (record { files_before = files c.loop-next.files; files_after = files c.take_turn.new.files; out_before = out c.loop-next.out; out_after = out c.take_turn.new.out }) =
+    subst (λ (h : Holding). Going h before (contents c.loop-next.out) c.loop-next.at c.loop-next.reader →
     Ended c.in-End.refusal h before (contents c.take_turn.new.out)
-    (record { files_before = files c.loop-n.files; files_after = files c.take_turn.new.files; out_before = out c.loop-n.out; out_after = out c.take_turn.new.out }))
-    (c.loop-n.invariant.kept c.args.name.now) (c.in-End.ensures.turned before) c.loop-n.invariant.going in
-    ended_since c.in-End.refusal holding before (contents c.take_turn.new.out) (files c.args.files.now) (files c.loop-n.files) (files c.take_turn.new.files)
-    (out c.args.out.now) (out c.loop-n.out) (out c.take_turn.new.out) c.loop-n.invariant.files_count c.loop-n.invariant.out_count end
+    (record { files_before = files c.loop-next.files; files_after = files c.take_turn.new.files; out_before = out c.loop-next.out; out_after = out c.take_turn.new.out }))
+    (c.loop-next.invariant.kept c.args.name.now) (c.in-End.ensures.turned before) c.loop-next.invariant.going in
+    ended_since c.in-End.refusal holding before (contents c.take_turn.new.out) (files c.args.files.now) (files c.loop-next.files) (files c.take_turn.new.files)
+    (out c.args.out.now) (out c.loop-next.out) (out c.take_turn.new.out) c.loop-next.invariant.files_count c.loop-next.invariant.out_count end

@@ -1,9 +1,9 @@
 use Rattle.std.proofs.Common.{◌≡◌, ℕ, ◌+◌, ◌-◌, ◌≤◌, ◌^◌, List, length}
-use Rattle.vpn_top.specs.Going.{Going}
+use Rattle.vpn_top.specs.internal.Going.{Going}
 use Rattle.vpn_top.proofs.route.route_pieces.Given as goal
 
-abbrev pub invariant-loop-n : goal.invariant-loop-n
-invariant-loop-n g l =
+abbrev pub invariant-loop-next : goal.invariant-loop-next
+invariant-loop-next g l =
     let holds = g.F.Files.holds in
     let contents = g.S.Sink.contents in
     record {
@@ -15,5 +15,5 @@ invariant-loop-n g l =
       out_count : g.S.Sink.faults l.fn.out ≤ g.S.Sink.faults l.out;
     }
 
-abbrev pub decreases-loop-n : goal.decreases-loop-n
-decreases-loop-n g l = 2 ^ 40 - l.at
+abbrev pub decreases-loop-next : goal.decreases-loop-next
+decreases-loop-next g l = 2 ^ 40 - l.at

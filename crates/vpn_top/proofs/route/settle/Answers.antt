@@ -1,4 +1,4 @@
-use Rattle.vpn_top.specs.Ends.{fault_of}
+use Rattle.vpn_top.specs.internal.Ends.{fault_of}
 use Rattle.vpn_top.proofs.Runs.{part_written}
 use Rattle.vpn_top.proofs.route.settle.Goals as goal
 

@@ -12,12 +12,12 @@ returns-in-Ok-eq0-clause-turned g c = λ before going.
 pub returns-in-Err-Missing-clause-turned : goal.returns-in-Err-Missing-clause-turned
 returns-in-Err-Missing-clause-turned g c = λ before going. (
   c.in-Err-Missing.ensures.missing c.in-Err-Missing.field-0-is,
-  part_of (g.F.Files.holds c.args.files.now c.args.name.now) before (g.S.Sink.contents c.args.out.now) c.args.at c.args.reader.now going,
+  part_of (g.F.Files.holds c.args.files.now c.args.name.now) before (g.S.Sink.contents c.args.out.now) c.args.at c.args.reader going,
 )
 
-pub returns-in-Err-Failed-clause-turned : goal.returns-in-Err-Failed-clause-turned
-returns-in-Err-Failed-clause-turned g c = λ before going. (
+pub returns-clause-turned : goal.returns-clause-turned
+returns-clause-turned g c = λ before going. (
   c.in-Err-Failed.ensures.failed c.in-Err-Failed.field-0-is,
   λ absent. let said = c.take.ensures.absent absent in cc,
-  part_of (g.F.Files.holds c.args.files.now c.args.name.now) before (g.S.Sink.contents c.args.out.now) c.args.at c.args.reader.now going,
+  part_of (g.F.Files.holds c.args.files.now c.args.name.now) before (g.S.Sink.contents c.args.out.now) c.args.at c.args.reader going,
 )

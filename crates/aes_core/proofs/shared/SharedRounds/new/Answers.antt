@@ -1,10 +1,10 @@
 use Rattle.std.proofs.Common.{[], ◌∷◌, ◌++◌, bit_xor, get_or, refl, take, ap, ◌∙◌}
 use Rattle.std.specs.Int.{byte_at}
-use Rattle.aes_core.specs.Columns.{mixed_part}
+use Rattle.aes_core.specs.internal.Columns.{mixed_part}
 use Rattle.aes_core.specs.Field.{xor_bytes}
 use Rattle.aes_core.specs.SBox.{sbox}
-use Rattle.aes_core.specs.SharedRounds.{two_rounds}
-use Rattle.aes_core.specs.Words.{state_bytes, word_bytes}
+use Rattle.aes_core.specs.internal.SharedRounds.{two_rounds}
+use Rattle.aes_core.specs.internal.Words.{state_bytes, word_bytes}
 use Rattle.aes_core.proofs.SharedFacts.{round_one, round_two}
 use Rattle.aes_core.proofs.shared.SharedRounds.new.Goals as goal
 

@@ -1,6 +1,6 @@
 use Rattle.std.proofs.Common.{◌≡◌, ◌≢◌, [], ◌∷◌, ◌++◌, ◌/◌, ◌%◌, ◌^◌, ap, ◌∙◌, arith}
 use Rattle.std.proofs.lemmas.Nat.{and_mask}
-use Rattle.aes_core.specs.SharedRounds.{two_rounds}
+use Rattle.aes_core.specs.internal.SharedRounds.{two_rounds}
 use Rattle.aes_core.proofs.SharedFacts.{same_front}
 use Rattle.aes_core.proofs.shared.SharedRounds.next.Goals as goal
 

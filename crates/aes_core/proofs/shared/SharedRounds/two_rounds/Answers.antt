@@ -1,8 +1,8 @@
 use Rattle.std.proofs.Common.{◌++◌, bit_xor, get_or, ap, ◌∙◌}
-use Rattle.aes_core.specs.Columns.{mixed_part}
+use Rattle.aes_core.specs.internal.Columns.{mixed_part}
 use Rattle.aes_core.specs.Field.{xor_bytes}
 use Rattle.aes_core.specs.SBox.{sbox}
-use Rattle.aes_core.specs.Words.{word_bytes}
+use Rattle.aes_core.specs.internal.Words.{word_bytes}
 use Rattle.aes_core.proofs.WordBytes.{word_bytes-xor}
 use Rattle.aes_core.proofs.shared.SharedRounds.two_rounds.Goals as goal
 

@@ -15,7 +15,7 @@ returns c =
     let size : length c.args.nonce ≡ 12 = search rules in
     let small : (i : ℕ) → get_or c.args.nonce i 0 < 256 = search rules in
     let lengths = c.from_be_bytes-lengths.ensures ∙ ap element c.length_block.ensures in
-    let hash = c.mul.ensures ∙ hash_in_parts key aad text c.self.inside.hash _ _ _ c.self.invariant c.absorb-sum.ensures c.absorb-sum-2.ensures lengths in
+    let hash = c.mul.ensures ∙ hash_in_parts key aad text c.self.inside.hash _ _ _ c.self.invariant c.absorb-sum.ensures.padded c.absorb-sum-2.ensures.padded lengths in
     let bytes = c.to_be_bytes-tag.ensures ∙ ap (to_be_bytes w128) hash in
     hash_enciphered key c.args.nonce aad text _ _ _ size small bytes c.counter_block.ensures c.ctr.ensures
     ∙ ap (λ k. tag_of k c.args.nonce aad text) c.self.view_is

@@ -1,5 +1,7 @@
+use Rattle.reliable_recv.specs.Sides.{Stands}
 use Rattle.reliable_recv.proofs.Standing.{stands_begun}
 use Rattle.reliable_recv.proofs.receiving.RecvSide.new.Goals as goal
 
 pub returns-clause-stands : goal.returns-clause-stands
-returns-clause-stands c = rw (c.new.ensures.items, c.in_ok-waiting.ensures.items) stands_begun
+unfolding Stands
+returns-clause-stands c = rw (c.in_ok-held.ensures.items, c.in_ok-waiting.ensures.items) stands_begun

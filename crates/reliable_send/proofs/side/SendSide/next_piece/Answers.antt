@@ -1,12 +1,14 @@
 use Rattle.std.proofs.Common.{◌≡◌, List, take, ap, sym, subst, ◌∙◌}
 use Rattle.reliable_send.specs.declared.pieces.KeptPiece.{KeptPiece}
 use Rattle.reliable_send.specs.declared.pieces.Wanted.TheVariants.{Unsent}
-use Rattle.reliable_send.specs.Sides.{Side, Stands, first_of, found}
+use Rattle.reliable_send.specs.Sides.{IsKeptOf, Side, Stands, first_of}
+use Rattle.reliable_send.specs.internal.Walks.{found}
 use Rattle.reliable_send.proofs.Standing.{ready_is}
 use Rattle.reliable_send.proofs.side.SendSide.next_piece.Goals as goal
 
 pub returns-clause-exact : goal.returns-clause-exact
+unfolding Stands
 returns-clause-exact c = λ h s.
-    let before = subst (λ (w : Side). Stands w h) (sym c.self.view_is) s in
+    let before = subst (λ (w : Side). IsKeptOf w.kept h) (sym c.self.view_is) s in
     let window : c.window.result.now ≡ take 6 c.self.inside.pieces.items = c.window.ensures ∙ ap (take 6) c.deref.ensures.value in
     c.find_first.ensures.exact ∙ ap (λ (ps : List KeptPiece). first_of (found (Unsent c.self.inside.started) c.self.inside.first ps)) window ∙ ap first_of (ready_is _ h before)

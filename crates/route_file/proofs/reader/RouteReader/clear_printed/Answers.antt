@@ -1,5 +1,5 @@
 use Rattle.route_file.proofs.Readings.{cleared_at}
-use Rattle.route_file.specs.State.{progress_of}
+use Rattle.route_file.specs.internal.State.{progress_of}
 use Rattle.route_file.proofs.reader.RouteReader.clear_printed.Goals as goal
 
 pub returns-clause-left : goal.returns-clause-left

@@ -4,7 +4,7 @@ use Rattle.std.specs.String.{string_bytes}
 use Rattle.schedule_text.specs.declared.kind.TextKind.{TextKind}
 use Rattle.vpn_base.specs.Lines.{Line}
 use Rattle.route_file.specs.Progress.{outcome_of, outcome_with, Ends}
-use Rattle.route_file.specs.State.{progress_of}
+use Rattle.route_file.specs.internal.State.{progress_of}
 use Rattle.route_file.proofs.Readings.{on_ok, if_refused, ended_ok, ended_refused}
 use Rattle.route_file.proofs.reader.RouteReader.end_line.Goals as goal
 

@@ -1,7 +1,7 @@
 use Rattle.std.proofs.Common.{◌≡◌, ◌+◌, ◌<◌, length, arith, inl, inr, refl, ap, ◌∙◌, length-append}
 use Rattle.std.specs.Prelude.{◌⊎◌}
 use Rattle.route_file.specs.Output.{longest_file}
-use Rattle.route_file.specs.State.{progress_of}
+use Rattle.route_file.specs.internal.State.{progress_of}
 use Rattle.route_file.proofs.Cuts.{one_line_append}
 use Rattle.route_file.proofs.Lengths.{never_fits}
 use Rattle.route_file.proofs.Readings.{kept_ok}

@@ -1,6 +1,6 @@
 use Rattle.std.proofs.Common.{◌≡◌, refl}
 use Rattle.route_file.specs.Output.{empty_table}
-use Rattle.route_file.specs.State.{progress_of}
+use Rattle.route_file.specs.internal.State.{progress_of}
 use Rattle.route_file.proofs.Readings.{begun_at}
 use Rattle.route_file.proofs.reader.RouteReader.new.Goals as goal
 

@@ -4,7 +4,7 @@ use Rattle.schedule_text.specs.declared.kind.TextKind.TheVariants as kinds
 use Rattle.schedule_text.specs.RouteLine.{route_line}
 use Rattle.vpn_base.specs.Lines.{Line, size}
 use Rattle.route_file.specs.Output.{judged, longest_file}
-use Rattle.route_file.specs.State.{progress_of}
+use Rattle.route_file.specs.internal.State.{progress_of}
 use Rattle.route_file.proofs.Steps.{past_limit, within_limit, refused_at, read_on}
 use Rattle.route_file.proofs.state.State.take_line.Goals as goal
 

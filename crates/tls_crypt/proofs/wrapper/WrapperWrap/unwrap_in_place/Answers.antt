@@ -1,10 +1,14 @@
-use Rattle.std.proofs.Common.{◌≡◌, ℕ, ◌≤◌, true, false, not, List, length, take, drop, ap, sym, ◌∙◌, arith}
+use Rattle.std.proofs.Common.{rules, refl, ◌≡◌, ℕ, ◌^◌, ◌<◌, ◌≤◌, true, false, not, List, length, take, drop, ap, sym, ◌∙◌, arith}
 use Rattle.std.proofs.lemmas.List.{take_rest}
 use Rattle.std.proofs.lemmas.Slice.Eq.{bytes_eq-Decides}
 use Rattle.tls_crypt.specs.Wrapped.{datagram, header, tag, wrapped}
 use Rattle.tls_crypt.specs.Packets.{Directions}
-use Rattle.tls_crypt.specs.Laws.{length-header}
+use Rattle.tls_crypt.specs.Unwrapping.{packet_of}
+use Rattle.tls_crypt.specs.internal.Laws.{framed, length-header, one_packet}
 use Rattle.tls_crypt.proofs.Datagrams.{front_kept, is_wrapped, not_false, restored, right_tag}
+use Rattle.byte_texts.specs.Texts.{IsBytes}
+use Rattle.byte_texts.proofs.Parts.{IsBytes-drop}
+use Rattle.tls_crypt.proofs.Searched.{none_found, short_found, unwraps_found}
 use Rattle.tls_crypt.proofs.wrapper.WrapperWrap.unwrap_in_place.Goals as goal
 
 pub returns-then-ne-clause-refused : goal.returns-then-ne-clause-refused
@@ -43,3 +47,28 @@ pub returns-clause-front : goal.returns-clause-front
 returns-clause-front c =
     let long : 49 ≤ length c.args.datagram.now = omega arith in
     front_kept c.self.inside.reads c.array_at-tag.result c.args.datagram.now c.encipher.new.datagram long c.encipher.ensures
+
+pub returns-then-datagram-lt-OVERHEAD-clause-exact : goal.returns-then-datagram-lt-OVERHEAD-clause-exact
+returns-then-datagram-lt-OVERHEAD-clause-exact c =
+    let keys = c.args.self.now.reads in
+    let small : IsBytes c.args.datagram.now = search rules in
+    short_found (wrapped keys) c.args.datagram.now (framed keys) small (omega arith)
+
+pub returns-then-ne-clause-exact : goal.returns-then-ne-clause-exact
+returns-then-ne-clause-exact c =
+    let keys = c.args.self.now.reads in
+    let small : IsBytes c.args.datagram.now = search rules in
+    none_found (wrapped keys) c.args.datagram.now (framed keys) small
+    (λ p unwraps. returns-then-ne-clause-refused c refl p.first p.sid p.id p.time p.plain unwraps.in_range.sid unwraps.is_wrapped)
+
+pub returns-clause-exact : goal.returns-clause-exact
+returns-clause-exact c =
+    let keys = c.args.self.now.reads in
+    let h = c.header_at.result in
+    let after = c.encipher.new.datagram in
+    let small : IsBytes after = search rules in
+    let sid : length h.sid.0 ≡ 8 = search rules in
+    let id : h.id < 2 ^ 32 = search rules in
+    let time : h.time < 2 ^ 32 = search rules in
+    unwraps_found (wrapped keys) c.args.datagram.now (packet_of h (drop 49 after)) (framed keys) (one_packet keys)
+    (record { in_range = record { sid = sid; id = id; time = time }; bytes = IsBytes-drop 49 after small; is_wrapped = returns-clause-opened c })

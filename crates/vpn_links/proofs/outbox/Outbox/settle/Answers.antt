@@ -2,7 +2,7 @@ use Rattle.std.proofs.Common.{List, ℕ, [], ◌++◌, length, map, vec_capacity
 use Rattle.vpn_links.specs.declared.store.Kept.{Kept}
 use Rattle.vpn_links.specs.declared.store.Staged.{Staged}
 use Rattle.vpn_links.specs.Actions.{Contents, on_wire}
-use Rattle.vpn_links.specs.Store.{IsSound, kept_action, kept_datagram, staged_datagram}
+use Rattle.vpn_links.specs.internal.Store.{IsSound, kept_action, kept_datagram, staged_datagram}
 use Rattle.vpn_links.proofs.Parts.{settled, settled_sound}
 use Rattle.vpn_links.proofs.outbox.Outbox.settle.Goals as goal
 

@@ -1,0 +1,2 @@
+-- What the ciphers are shown by: no contract cites it.
+pub mod Laws

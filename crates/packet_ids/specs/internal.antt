@@ -1,0 +1,2 @@
+-- Definitions that only private functions and invariants cite.
+pub mod Sound

@@ -1,0 +1,3 @@
+-- What only private functions and invariants cite.
+pub mod Sound
+pub mod Walks

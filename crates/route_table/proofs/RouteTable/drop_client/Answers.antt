@@ -1,0 +1,6 @@
+use Rattle.route_table.proofs.Learning.{sound_kept}
+use Rattle.route_table.proofs.RouteTable.drop_client.Goals as goal
+
+pub invariant_of-self : goal.invariant_of-self
+invariant_of-self c =
+    rw (c.judge_again.ensures, c.deref.ensures.value) (sound_kept c.keep_others.new.rows.items c.self.inside.hosts.items c.self.invariant.few)

@@ -1,0 +1,6 @@
+-- What only private functions cite.
+pub mod Requests
+pub mod Going
+pub mod Ends
+pub mod Refused
+pub mod Told
