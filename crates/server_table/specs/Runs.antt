@@ -6,18 +6,13 @@ use Rattle.vpn_links.specs.Actions.{Action, Report}
 use Rattle.vpn_links.specs.declared.events.Event.{Event}
 use Rattle.vpn_links.specs.declared.events.Kind.{Kind}
 use Rattle.vpn_links.specs.declared.events.Kind.TheVariants.{Datagram, DeviceIn, DeviceReady, Halt}
+use Rattle.vpn_links.specs.Steps.{Lack, LacksAll, LacksHost, LacksNothing}
 use Rattle.vpn_links.specs.declared.notes.Note.{Note}
 use Rattle.vpn_links.specs.declared.notes.Note.TheVariants as notes
 use Rattle.opcode_codec.specs.Packet.{PacketForm, Inner, packet_of}
 use Rattle.server_table.specs.Table.{Table}
 use Rattle.server_table.specs.Courses.{outs}
 use Rattle.server_table.specs.Step.{is_over, step}
-
--- what finds no memory at an event: nothing, the event as a whole, or the host that it would have the server learn
-pub data Lack : Type 0 where
-  LacksNothing : Lack
-  LacksAll : Lack
-  LacksHost : Lack
 
 -- an event, and what lacks at it
 abbrev pub Entry : Type 0
