@@ -1,1 +1,3 @@
 pub mod Places
+pub mod Stopped
+pub mod Pool

@@ -14,3 +14,4 @@ pub mod Runs
 pub mod Senders
 pub mod Sealed
 pub mod Sound
+pub mod Pool
