@@ -1,3 +1,16 @@
 pub mod Places
 pub mod Stopped
 pub mod Pool
+pub mod Sessions
+pub mod Kept
+pub mod KeptEndings
+pub mod KeptPackets
+pub mod KeptEstablishing
+pub mod KeptExchange
+pub mod KeptTime
+pub mod Settled
+pub mod KeptEngine
+pub mod KeptData
+pub mod KeptControl
+pub mod Admission
+pub mod Steps

@@ -15,3 +15,6 @@ pub mod Senders
 pub mod Sealed
 pub mod Sound
 pub mod Pool
+pub mod Numbers
+pub mod Refusals
+pub mod internal

@@ -1,13 +1,19 @@
 //! Laws that tell whether the definitions mean what they should.
 
-ghost use Rattle.std.specs.Prelude.{◌≡◌, ℕ, Bool, true, false, List, [], map, Option, Some, None};
+ghost use Rattle.std.specs.Prelude.{◌≡◌, ◌≤◌, ◌+◌, ◌^◌, ℕ, Bool, true, false, List, [], length, map, Option, Some, None};
+ghost use Rattle.ovpn_config.specs.declared.settings.Settings.{Settings};
 ghost use Rattle.vpn_links.specs.declared.events.Event.{Event};
 ghost use Rattle.vpn_links.specs.declared.events.Kind.TheVariants.{Halt};
+ghost use Rattle.server_table.specs.Courses.{outs};
 ghost use Rattle.server_table.specs.Establishing.{Leased, address_by};
+ghost use Rattle.server_table.specs.internal.CallsKeepOrder.{CallsKeepOrder};
+ghost use Rattle.server_table.specs.Numbers.{AreStill};
 ghost use Rattle.server_table.specs.Pool.{IsFree};
+ghost use Rattle.server_table.specs.Refusals.{is_refused};
 ghost use Rattle.server_table.specs.Runs.{Entry, MayRun, after_all, run};
-ghost use Rattle.server_table.specs.Step.{course_of, is_over, step};
-ghost use Rattle.server_table.specs.Table.{Table};
+ghost use Rattle.server_table.specs.Sound.{IsSound};
+ghost use Rattle.server_table.specs.Step.{course_begun, course_of, is_over, step};
+ghost use Rattle.server_table.specs.Table.{Table, table_begun};
 
 /// Once the server was stopped, or took the last event that it takes, no event does anything or changes the
 /// table, and none lacks memory. What stops it is the end.
@@ -23,3 +29,51 @@ pub fn a_stopped_server_stays()
 pub fn the_pool_gives_free_addresses()
     ensures { (t : Table) (a : Leased) → address_by t None ≡ Some a → IsFree t a.0 }
 {}
+
+// The law of a client's session, as one fact.
+fn calls_keep_order()
+    ensures { CallsKeepOrder }
+{
+    peer_table::key_sessions_are_orderly();
+}
+
+/// The moment of a server never falls, and stays one of the moments that events have.
+pub fn moment_never_falls()
+    ensures step { (lacks : Bool) (t : Table) (event : Event) → t.moment ≤ 2 ^ 52 → t.moment ≤ (step lacks t event).table.moment }
+    ensures most { (lacks : Bool) (t : Table) (event : Event) → t.moment ≤ 2 ^ 52 → (step lacks t event).table.moment ≤ 2 ^ 52 }
+    ensures run { (t : Table) (entries : List Entry) → t.moment ≤ 2 ^ 52 → t.moment ≤ (after_all t entries).moment }
+{
+    calls_keep_order();
+}
+
+/// Every table that a run comes to is sound: the key sessions of each client are orderly, no two clients that
+/// are here have one peer id, nor one address with one session id, and each row is that of a client that is
+/// here and established.
+pub fn tables_stay_sound()
+    ensures begins { (settings : Settings) (key : List ℕ) → IsSound (table_begun settings key) }
+    ensures step { (lacks : Bool) (t : Table) (event : Event) → IsSound t → IsSound (step lacks t event).table }
+    ensures run { (t : Table) (entries : List Entry) → IsSound t → IsSound (after_all t entries) }
+{
+    calls_keep_order();
+}
+
+/// Numbers are given in the order of admission, each once: a step keeps each client under its number, with its
+/// peer id and the session id that was fixed, never brings back one that ended, and admits at most one, which
+/// then has the next number.
+pub fn numbers_are_in_order_of_admission()
+    ensures step { (lacks : Bool) (t : Table) (event : Event) → IsSound t → AreStill t.clients (step lacks t event).table.clients }
+    ensures from { (lacks : Bool) (t : Table) (event : Event) → length t.clients ≤ length (step lacks t event).table.clients }
+    ensures most { (lacks : Bool) (t : Table) (event : Event) → length (step lacks t event).table.clients ≤ length t.clients + 1 }
+    ensures run { (t : Table) (entries : List Entry) → IsSound t → AreStill t.clients (after_all t entries).clients }
+{
+    calls_keep_order();
+}
+
+/// Where all that an event does is the note of a refusal, the table is as the event found it: its moment is
+/// the event's, and the event is counted.
+pub fn refused_packets_change_nothing()
+    ensures { (lacks : Bool) (t : Table) (event : Event) → is_refused (outs (step lacks t event)) ≡ true →
+        (step lacks t event).table ≡ (course_begun t event).table }
+{
+    calls_keep_order();
+}
