@@ -14,3 +14,4 @@ pub mod KeptData
 pub mod KeptControl
 pub mod Admission
 pub mod Steps
+pub mod GivenUp

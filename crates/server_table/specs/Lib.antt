@@ -17,4 +17,5 @@ pub mod Sound
 pub mod Pool
 pub mod Numbers
 pub mod Refusals
+pub mod GivenUp
 pub mod internal

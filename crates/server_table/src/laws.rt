@@ -1,11 +1,17 @@
 //! Laws that tell whether the definitions mean what they should.
 
-ghost use Rattle.std.specs.Prelude.{◌≡◌, ◌≤◌, ◌+◌, ◌^◌, ℕ, Bool, true, false, List, [], length, map, Option, Some, None};
+ghost use Rattle.std.specs.Prelude.{◌≡◌, ◌≤◌, ◌+◌, ◌^◌, ℕ, Bool, true, false, List, [], length, map, slice_get, Option, Some, None};
 ghost use Rattle.ovpn_config.specs.declared.settings.Settings.{Settings};
+ghost use Rattle.vpn_base.specs.declared.names.Cause.{Cause};
 ghost use Rattle.vpn_links.specs.declared.events.Event.{Event};
 ghost use Rattle.vpn_links.specs.declared.events.Kind.TheVariants.{Halt};
-ghost use Rattle.server_table.specs.Courses.{outs};
+ghost use Rattle.peer_table.specs.KeySessions.{is_open};
+ghost use Rattle.peer_table.specs.Orderly.{how_many};
+ghost use Rattle.server_table.specs.Courses.{Course, outs};
+ghost use Rattle.server_table.specs.Endings.{ended};
 ghost use Rattle.server_table.specs.Establishing.{Leased, address_by};
+ghost use Rattle.server_table.specs.GivenUp.{IsGivenUp};
+ghost use Rattle.server_table.specs.Lookups.{client_here};
 ghost use Rattle.server_table.specs.internal.CallsKeepOrder.{CallsKeepOrder};
 ghost use Rattle.server_table.specs.Numbers.{AreStill};
 ghost use Rattle.server_table.specs.Pool.{IsFree};
@@ -13,7 +19,7 @@ ghost use Rattle.server_table.specs.Refusals.{is_refused};
 ghost use Rattle.server_table.specs.Runs.{Entry, MayRun, after_all, run};
 ghost use Rattle.server_table.specs.Sound.{IsSound};
 ghost use Rattle.server_table.specs.Step.{course_begun, course_of, is_over, step};
-ghost use Rattle.server_table.specs.Table.{Table, table_begun};
+ghost use Rattle.server_table.specs.Table.{Client, Table, table_begun};
 
 /// Once the server was stopped, or took the last event that it takes, no event does anything or changes the
 /// table, and none lacks memory. What stops it is the end.
@@ -77,3 +83,16 @@ pub fn refused_packets_change_nothing()
 {
     calls_keep_order();
 }
+
+/// Of each client of a sound table at most three key sessions are open.
+pub fn at_most_three_sessions_are_open()
+    ensures { (t : Table) (n : ℕ) (x : Client) → IsSound t → slice_get t.clients n ≡ Some x → how_many is_open x.session.sessions ≤ 3 }
+{
+    peer_table::at_most_three_are_open();
+}
+
+/// A client that ends gives up everything: its key sessions, its peer id, its rows with the hosts that were
+/// learned of it, and the control datagrams that were staged for it.
+pub fn an_end_gives_everything_up()
+    ensures { (n : ℕ) (cause : Cause) (c : Course) (x : Client) → IsSound c.table → client_here c.table n ≡ Some x → IsGivenUp n x (ended n cause c) }
+{}
