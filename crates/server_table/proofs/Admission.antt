@@ -1,8 +1,8 @@
 -- A client that is admitted: it has a peer id of its own, and stands behind all others.
-use Rattle.std.proofs.Common.{◌≡◌, ◌≤◌, ℕ, zero, suc, ◌+◌, ◌==◌, ◌%◌, ◌&&◌, max, Bool, true, false, List, [], ◌∷◌, ◌++◌, length, Option, Some, None, refl, sym, ap, ◌∙◌, subst, inl, inr, arith, length-append, is_some, Result, Ok, Err}
-use Rattle.std.specs.Prelude.{◌⊎◌, ◌||◌, slice_get, if◌then◌else◌}
+use Rattle.std.proofs.Common.{◌≡◌, ◌≤◌, ℕ, zero, suc, ◌+◌, ◌==◌, Bool, true, false, List, [], ◌∷◌, ◌++◌, length, Option, Some, None, refl, sym, ap, ◌∙◌, subst, inl, inr, arith, length-append, Result, Ok, Err}
+use Rattle.std.specs.Prelude.{◌⊎◌, slice_get, if◌then◌else◌}
 use Rattle.std.specs.List.{list_any}
-use Rattle.std.proofs.lemmas.Bool.{and_parts, and_right, eqb-true, false≢true, ne_eqb, or_parts}
+use Rattle.std.proofs.lemmas.Bool.{and_right, eqb-true, false≢true, ne_eqb, or_parts}
 use Rattle.vpn_base.specs.declared.address.Addr.{Addr}
 use Rattle.vpn_base.specs.declared.names.Draw.{Draw}
 use Rattle.vpn_base.specs.declared.names.Malformed.{Malformed}
@@ -12,27 +12,25 @@ use Rattle.vpn_links.specs.Actions.{EngineOpen}
 use Rattle.vpn_links.specs.declared.notes.Note.TheVariants as notes
 use Rattle.opcode_codec.specs.ControlText.{ControlForm, control_of}
 use Rattle.opcode_codec.specs.declared.opcodes.Opcode.{Opcode}
-use Rattle.route_table.specs.Owner.{Row}
 use Rattle.tls_crypt.specs.Packets.{Packet}
 use Rattle.tls_crypt.specs.Unwrapping.{unwrapping}
 use Rattle.peer_table.specs.declared.outcomes.Turn.{Turn}
 use Rattle.peer_table.specs.ControlPackets.{sid_of}
 use Rattle.peer_table.specs.Orderly.{IsOrderly, IsOrderlyFrom}
-use Rattle.peer_table.specs.Outboxes.{actions_of}
-use Rattle.peer_table.specs.Peer.{Doing, Opens, Outcome, Peer, began}
+use Rattle.peer_table.specs.Peer.{Outcome, Peer, began}
 use Rattle.peer_table.specs.Places.{changed_at, first_place}
 use Rattle.server_table.specs.Table.{Client, Table}
 use Rattle.server_table.specs.Lookups.{by_session, client_here, free_peer_id, greatest_peer_id, has_peer_id, has_session, if_here, is_full, unless_used, unused_from}
-use Rattle.server_table.specs.Courses.{Course, acted, reported}
+use Rattle.server_table.specs.Courses.{Course, reported}
 use Rattle.server_table.specs.DataDatagrams.{FromWire}
-use Rattle.server_table.specs.ControlDatagrams.{ControlPacket, admitted, admitted_if_wrapped, admitted_unless_full, begins_client, client_begun, client_wraps, control_arrived, control_at, control_read, control_unwrapped, first_of, of_nobody, opened_for, own_sid, server_wraps, session_begun, to_client, with_admitted}
-use Rattle.server_table.specs.Numbers.{IsStillAt}
-use Rattle.server_table.specs.Sound.{AreOrderly, AtMostOne, IsEstablishedAt, IsSound}
-use Rattle.server_table.proofs.Places.{FirstAt, WasChanged, first_is, get_appended, get_changed, get_last, got_appended, got_changed, none_passes, none_some, some_same}
-use Rattle.server_table.proofs.Sessions.{SessionIs, one_more, session_is}
+use Rattle.server_table.specs.ControlDatagrams.{ControlPacket, admitted, admitted_unless_full, begins_client, client_begun, client_wraps, control_arrived, control_at, control_read, control_unwrapped, first_of, of_nobody, opened_for, own_sid, server_wraps, session_begun, with_admitted}
+use Rattle.server_table.specs.Sound.{AreOrderly, IsEstablishedAt}
+use Rattle.server_table.proofs.Places.{WasChanged, first_is, get_appended, get_changed, get_last, got_appended, got_changed, none_passes, none_some, some_same}
+use Rattle.server_table.proofs.Sessions.{one_more, session_is}
 use Rattle.server_table.specs.internal.CallsKeepOrder.{CallsKeepOrder}
-use Rattle.server_table.proofs.Kept.{IsHereAt, Kept, acted_kept, all_mapped, begins_late, here_at}
-use Rattle.server_table.proofs.Settled.{Finished, MayRefuse, Settled, is_past, kept_settled, past_done, refusal_settled}
+use Rattle.server_table.proofs.Kept.{Kept, begins_late}
+use Rattle.server_table.proofs.Keeps.{acted_kept, all_mapped, here_at}
+use Rattle.server_table.proofs.Settled.{Finished, Settled, is_past, past_done, refusal_settled}
 use Rattle.server_table.proofs.KeptControl.{Alone, to_client_settled}
 
 -- ---- a peer id that nobody has

@@ -12,14 +12,14 @@ use Rattle.peer_table.specs.Orderly.{how_many}
 use Rattle.peer_table.specs.Places.{changed_at}
 use Rattle.route_table.specs.Owner.{Row, best_row, better, is_owned_by, owner, without}
 use Rattle.route_table.specs.Learned.{Host, kept_hosts}
-use Rattle.server_table.specs.Table.{Client, Table}
+use Rattle.server_table.specs.Table.{Client}
 use Rattle.server_table.specs.Lookups.{cid, client_here, has_peer_id, if_here}
 use Rattle.server_table.specs.Courses.{Course, Staged}
 use Rattle.server_table.specs.Endings.{ended, ended_as, gone}
 use Rattle.server_table.specs.GivenUp.{IsGivenUp}
 use Rattle.server_table.specs.Sound.{AtMostOne, IsSound}
-use Rattle.server_table.proofs.Places.{WasChanged, get_changed, got_changed, none_some, some_same}
-use Rattle.server_table.proofs.Kept.{here_at}
+use Rattle.server_table.proofs.Places.{WasChanged, get_changed, got_changed, some_same}
+use Rattle.server_table.proofs.Keeps.{here_at}
 
 -- ---- its rows
 

@@ -1,6 +1,6 @@
 -- A control packet that comes keeps what a course keeps.
-use Rattle.std.proofs.Common.{◌≡◌, ℕ, zero, suc, ◌+◌, ◌==◌, ◌%◌, ◌&&◌, Bool, true, false, List, [], ◌∷◌, ◌++◌, length, Option, Some, None, refl, sym, ap, ap₂, ◌∙◌, subst, inl, inr, add-zero, is_some, Result, Ok, Err}
-use Rattle.std.specs.Prelude.{◌⊎◌, slice_get, if◌then◌else◌}
+use Rattle.std.proofs.Common.{◌≡◌, ℕ, zero, suc, ◌+◌, Bool, true, false, List, [], ◌∷◌, length, Option, Some, None, refl, sym, ap, ap₂, ◌∙◌, inl, inr, add-zero, Result, Ok, Err}
+use Rattle.std.specs.Prelude.{slice_get}
 use Rattle.std.specs.Option.{option_or}
 use Rattle.std.proofs.lemmas.Bool.{false≢true}
 use Rattle.vpn_base.specs.declared.address.Addr.{Addr}
@@ -10,7 +10,6 @@ use Rattle.vpn_base.specs.declared.names.Sid.{Sid}
 use Rattle.vpn_links.specs.Actions.{Report}
 use Rattle.vpn_links.specs.declared.notes.Note.TheVariants as notes
 use Rattle.packet_ids.specs.LongFreshness.{long_freshness}
-use Rattle.control_link.specs.Calls as link
 use Rattle.peer_table.specs.declared.outcomes.Refused.{Refused}
 use Rattle.peer_table.specs.declared.outcomes.Refused.TheVariants.{Replayed, BadKey}
 use Rattle.peer_table.specs.declared.outcomes.Turn.{Turn}
@@ -25,14 +24,15 @@ use Rattle.server_table.specs.Lookups.{cid, client_here, has_session}
 use Rattle.server_table.specs.Courses.{Course, acted, client_changed, did, opened_by}
 use Rattle.server_table.specs.DataDatagrams.{went_to}
 use Rattle.server_table.specs.Endings.{turned}
-use Rattle.server_table.specs.ControlDatagrams.{ControlPacket, control_acted, control_answered, control_for, control_session, incoming, to_client, with_fresh}
+use Rattle.server_table.specs.ControlDatagrams.{ControlPacket, control_answered, control_for, control_session, incoming, to_client, with_fresh}
 use Rattle.server_table.specs.Sound.{AtMostOne}
-use Rattle.server_table.proofs.Places.{none_some, some_same}
-use Rattle.server_table.proofs.Sessions.{SessionIs, changed_back, has_session_of, joined, session_is, shadowed}
+use Rattle.server_table.proofs.Places.{some_same}
+use Rattle.server_table.proofs.Sessions.{changed_back, has_session_of, joined, session_is, shadowed}
 use Rattle.server_table.specs.internal.CallsKeepOrder.{CallsKeepOrder}
-use Rattle.server_table.proofs.Kept.{Changes, IsSoundOf, Keeps, Kept, all_mapped, altered, at_place, did_kept, done_kept, established_changed, here_at, keeps_kept, keeps_session, late_actions, orderly_from}
+use Rattle.server_table.proofs.Kept.{Changes, Kept, altered, done_kept, late_actions, orderly_from}
+use Rattle.server_table.proofs.Keeps.{all_mapped, at_place, did_kept, established_changed, here_at, keeps_kept, keeps_session}
 use Rattle.server_table.proofs.KeptEndings.{turned_kept}
-use Rattle.server_table.proofs.Settled.{MayRefuse, Settled, is_past, kept_settled, not_refused, past_append, past_late}
+use Rattle.server_table.proofs.Settled.{MayRefuse, Settled, kept_settled, not_refused, past_append, past_late}
 
 -- who has this address and session id is the client of this number
 abbrev pub Alone : List Client → ℕ → Addr → Sid → Type 0

@@ -1,5 +1,5 @@
 -- A data packet that comes keeps what a course keeps.
-use Rattle.std.proofs.Common.{◌≡◌, ℕ, ◌==◌, ◌&&◌, not, Bool, true, false, List, [], ◌∷◌, length, Option, Some, None, refl, sym, ap, ◌∙◌, subst, Result, Ok, Err, bytes_eq}
+use Rattle.std.proofs.Common.{◌≡◌, ℕ, ◌==◌, ◌&&◌, not, Bool, true, false, List, [], ◌∷◌, length, Option, Some, None, refl, sym, ap, ◌∙◌, Result, Ok, Err, bytes_eq}
 use Rattle.std.specs.Prelude.{slice_get}
 use Rattle.std.proofs.lemmas.Bool.{and_parts, eqb-true, false≢true, not-false, not-true}
 use Rattle.vpn_base.specs.declared.address.Addr.{Addr}
@@ -23,10 +23,11 @@ use Rattle.server_table.specs.Courses.{Course}
 use Rattle.server_table.specs.InnerPackets.{learned}
 use Rattle.server_table.specs.DataDatagrams.{FromWire, accepted, carried, carried_as, data_at, data_came, data_for, is_other, is_taken, moved, moved_if, opened_as, passed, ping, refused, with_opened}
 use Rattle.server_table.specs.Sound.{AtMostOne, IsSound}
-use Rattle.server_table.proofs.Places.{FirstAt, first_is, get_changed, none_passes, some_same}
-use Rattle.server_table.proofs.Sessions.{SessionIs, has_session_of, joined, session_is}
+use Rattle.server_table.proofs.Places.{first_is, get_changed, none_passes}
+use Rattle.server_table.proofs.Sessions.{has_session_of, joined, session_is}
 use Rattle.server_table.specs.internal.CallsKeepOrder.{CallsKeepOrder}
-use Rattle.server_table.proofs.Kept.{Keeps, Kept, all_mapped, altered, at_place, did_kept, done_kept, established_changed, here_at, keeps_kept, orderly_from}
+use Rattle.server_table.proofs.Kept.{Kept, altered, done_kept, orderly_from}
+use Rattle.server_table.proofs.Keeps.{Keeps, all_mapped, at_place, did_kept, established_changed, here_at, keeps_kept}
 use Rattle.server_table.proofs.KeptPackets.{learned_kept, queued_kept, sealed_kept}
 use Rattle.server_table.proofs.Settled.{Settled, kept_settled, refusal_settled}
 

@@ -1,6 +1,5 @@
 -- The end of a client keeps what a course keeps.
-use Rattle.std.proofs.Common.{◌≡◌, ℕ, ◌==◌, not, cond, Bool, true, false, List, [], ◌∷◌, filter, Option, Some, None, refl, sym, ap, ◌∙◌, subst, is_some}
-use Rattle.std.specs.Prelude.{slice_get}
+use Rattle.std.proofs.Common.{◌≡◌, ℕ, ◌==◌, not, cond, Bool, true, false, List, [], ◌∷◌, filter, Option, Some, None, refl, ◌∙◌}
 use Rattle.std.proofs.lemmas.Bool.{eqb-false, false≢true}
 use Rattle.vpn_base.specs.declared.names.Cause.{Cause}
 use Rattle.route_table.specs.Owner.{Row}

@@ -22,11 +22,12 @@ use Rattle.peer_table.specs.Peer.{Outcome}
 use Rattle.server_table.specs.Table.{Awaited, Client, FileState, Known, Table, Unasked}
 use Rattle.server_table.specs.Lookups.{by_connection, cid, client_here}
 use Rattle.server_table.specs.Courses.{Course, acted}
-use Rattle.server_table.specs.Engine.{answer_acted, answer_at, answer_for, asked, asked_by, asked_for, asked_in, asked_once, default_name, down_at, engine_acted, engine_answered, engine_is_down, file_accepted, file_at, file_came, file_for, file_given, file_is, file_known, file_lacking, file_missing, file_read, gone_on, text_acted, unread_if, unread_judged, unread_limit, unread_of}
+use Rattle.server_table.specs.Engine.{answer_acted, answer_at, answer_for, asked, asked_by, asked_for, asked_in, asked_once, default_name, down_at, engine_acted, engine_answered, engine_is_down, file_accepted, file_at, file_came, file_for, file_given, file_is, file_known, file_lacking, file_missing, file_read, gone_on, unread_if, unread_judged, unread_limit, unread_of}
 use Rattle.server_table.specs.Establishing.{name_in}
 use Rattle.server_table.specs.Exchange.{exchange, messages_taken}
 use Rattle.server_table.specs.internal.CallsKeepOrder.{CallsKeepOrder}
-use Rattle.server_table.proofs.Kept.{Kept, acted_kept, did_kept, keeps_kept, orderly_from}
+use Rattle.server_table.proofs.Kept.{Kept, orderly_from}
+use Rattle.server_table.proofs.Keeps.{acted_kept, did_kept, keeps_kept}
 use Rattle.server_table.proofs.KeptEndings.{ended_kept, turned_kept}
 use Rattle.server_table.proofs.KeptExchange.{exchange_kept, messages_kept}
 use Rattle.server_table.proofs.Settled.{Settled, kept_settled, refusal_settled}

@@ -1,7 +1,5 @@
 -- The establishing of a client keeps what a course keeps.
-use Rattle.std.proofs.Common.{◌≡◌, ℕ, ◌==◌, ◌++◌, map, Bool, true, false, List, [], ◌∷◌, Option, Some, None, refl, sym, ap, ◌∙◌, subst, is_some}
-use Rattle.std.specs.Prelude.{slice_get}
-use Rattle.std.specs.List.{AllByRecursion}
+use Rattle.std.proofs.Common.{◌≡◌, ℕ, ◌++◌, Bool, true, false, List, [], ◌∷◌, Option, Some, None, refl}
 use Rattle.vpn_base.specs.declared.names.Cause.TheVariants.{PoolEmpty, Replaced}
 use Rattle.vpn_base.specs.declared.names.Conn.{Conn}
 use Rattle.vpn_base.specs.Network.{Network}
@@ -14,11 +12,12 @@ use Rattle.peer_table.specs.Places.{changed_at}
 use Rattle.server_table.specs.Table.{Client, Table}
 use Rattle.server_table.specs.Lookups.{cid, client_here, established_named}
 use Rattle.server_table.specs.Courses.{Course}
-use Rattle.server_table.specs.Establishing.{Leased, address_by, ccd_in, client_established, establishing, establishing_lines, established_at, established_for, established_now, established_with, name_in, networks_of, plan_of, replaced, replaced_unless, reply, with_address, written}
+use Rattle.server_table.specs.Establishing.{Leased, address_by, ccd_in, client_established, establishing, establishing_lines, established_at, established_for, established_with, name_in, networks_of, plan_of, replaced, replaced_unless, reply, with_address, written}
 use Rattle.server_table.specs.Sound.{AreRowsOf, IsEstablishedAt}
 use Rattle.server_table.proofs.Places.{get_changed}
 use Rattle.server_table.specs.internal.CallsKeepOrder.{CallsKeepOrder}
-use Rattle.server_table.proofs.Kept.{Keeps, Kept, begins_late, done_kept, here_at, keeps_with, late_append, orderly_from}
+use Rattle.server_table.proofs.Kept.{Kept, begins_late, done_kept, late_append, orderly_from}
+use Rattle.server_table.proofs.Keeps.{here_at, keeps_with}
 use Rattle.server_table.proofs.KeptEndings.{ended_kept}
 
 -- ---- what is told

@@ -15,7 +15,8 @@ use Rattle.server_table.specs.Endings.{turned}
 use Rattle.server_table.specs.Establishing.{ccd_in, leased_to, reply}
 use Rattle.server_table.specs.Exchange.{asks_to_be_established, established_as_asked, established_if, established_on, exchange, exchange_acted, exchange_for, exchange_made, exchange_with, message_came, messages_taken, messages_taken_by, messages_taken_for, messages_taken_of, messages_taken_upto, most_messages, other_message, policy_with, push_request, requested, requested_as}
 use Rattle.server_table.specs.internal.CallsKeepOrder.{CallsKeepOrder}
-use Rattle.server_table.proofs.Kept.{Kept, acted_kept, did_kept, done_kept, keeps_kept, orderly_from}
+use Rattle.server_table.proofs.Kept.{Kept, done_kept, orderly_from}
+use Rattle.server_table.proofs.Keeps.{acted_kept, did_kept, keeps_kept}
 use Rattle.server_table.proofs.KeptEndings.{turned_kept}
 use Rattle.server_table.proofs.KeptEstablishing.{client_established_kept, late_reply}
 

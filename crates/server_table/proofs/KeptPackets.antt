@@ -13,7 +13,8 @@ use Rattle.server_table.specs.Lookups.{cid, client_here}
 use Rattle.server_table.specs.Courses.{Course}
 use Rattle.server_table.specs.InnerPackets.{dequeued, device_ready, is_host_of, learned, learned_unless_lacking, learned_where, most_queued, queued, queued_unless_full, sealed_as, sealed_for, sealed_to, with_sent}
 use Rattle.server_table.specs.internal.CallsKeepOrder.{CallsKeepOrder}
-use Rattle.server_table.proofs.Kept.{Keeps, Kept, at_place, did_kept, done_kept, here_at, keeps_kept, orderly_from}
+use Rattle.server_table.proofs.Kept.{Kept, done_kept, orderly_from}
+use Rattle.server_table.proofs.Keeps.{Keeps, at_place, did_kept, here_at, keeps_kept}
 
 module _ (calls : CallsKeepOrder) {a : Table} {k : ℕ} where
   sealed_as_kept : (n : ℕ) (x : Client) (c : Course) (peer : Peer) (r : Result (List ℕ) Spent) → client_here c.table n ≡ Some x →

@@ -12,7 +12,8 @@ use Rattle.server_table.specs.Endings.{turned}
 use Rattle.server_table.specs.DataDatagrams.{ping}
 use Rattle.server_table.specs.Time.{client_ticked, clients_ticked, count_line_if, count_lines, counts_are_due, is_counted, ping_is_due, pinged, pinged_if, tick, tick_acted, tick_for, ticking_for, told_counts}
 use Rattle.server_table.specs.internal.CallsKeepOrder.{CallsKeepOrder}
-use Rattle.server_table.proofs.Kept.{Kept, acted_kept, begins_late, done_kept, orderly_from}
+use Rattle.server_table.proofs.Kept.{Kept, begins_late, done_kept, orderly_from}
+use Rattle.server_table.proofs.Keeps.{acted_kept}
 use Rattle.server_table.proofs.KeptEndings.{turned_kept}
 use Rattle.server_table.proofs.KeptPackets.{sealed_kept}
 

@@ -3,6 +3,7 @@ pub mod Stopped
 pub mod Pool
 pub mod Sessions
 pub mod Kept
+pub mod Keeps
 pub mod KeptEndings
 pub mod KeptPackets
 pub mod KeptEstablishing

@@ -1,8 +1,8 @@
 -- The address that the pool gives.
 use Rattle.std.proofs.Common.{◌≡◌, ◌≤◌, ◌<◌, ℕ, zero, suc, ◌+◌, ◌-◌, ◌==◌, not, cond, Bool, true, false, List, [], ◌∷◌, find, filter_map, Option, Some, None, refl, sym, ap, ◌∙◌, subst, arith, option_map}
-use Rattle.std.specs.Prelude.{◌||◌, if◌then◌else◌, slice_get, unwrap_or}
+use Rattle.std.specs.Prelude.{if◌then◌else◌, slice_get}
 use Rattle.std.specs.List.{cons_option, list_any, range_with_len}
-use Rattle.std.proofs.lemmas.Bool.{eqb-false, or_parts, false≢true, true≢false}
+use Rattle.std.proofs.lemmas.Bool.{eqb-false, or_parts, false≢true}
 use Rattle.vpn_base.specs.declared.address.Ip4.{Ip4}
 use Rattle.ovpn_config.specs.declared.settings.Settings.{Settings}
 use Rattle.address_pool.specs.LeastFree.{is_taken, least_free}

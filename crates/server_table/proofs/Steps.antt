@@ -1,6 +1,6 @@
 -- What a step keeps, and what a run keeps.
-use Rattle.std.proofs.Common.{◌≡◌, ◌≤◌, ℕ, suc, ◌+◌, ◌^◌, min, max, nat_lt, Bool, true, false, List, [], ◌∷◌, length, Option, Some, None, refl, sym, ap, ◌∙◌, subst, inl, inr, arith, Result, Ok, Err}
-use Rattle.std.specs.Prelude.{◌⊎◌, slice_get, codes}
+use Rattle.std.proofs.Common.{◌≡◌, ◌≤◌, ℕ, suc, ◌+◌, ◌^◌, nat_lt, Bool, true, false, List, [], ◌∷◌, length, None, refl, sym, ap, ◌∙◌, subst, inl, inr, arith, Result, Ok, Err}
+use Rattle.std.specs.Prelude.{◌⊎◌, codes}
 use Rattle.std.proofs.lemmas.Bool.{false≢true}
 use Rattle.vpn_base.specs.declared.names.Draw.{Draw}
 use Rattle.vpn_base.specs.declared.names.Malformed.{Malformed}
@@ -18,13 +18,14 @@ use Rattle.server_table.specs.Table.{Client, Table, table_begun}
 use Rattle.server_table.specs.Courses.{Course, outs}
 use Rattle.server_table.specs.ControlDatagrams.{first_of}
 use Rattle.server_table.specs.DataDatagrams.{FromWire}
-use Rattle.server_table.specs.Numbers.{AreStill, IsStillAt}
+use Rattle.server_table.specs.Numbers.{AreStill}
 use Rattle.server_table.specs.Refusals.{is_refused}
 use Rattle.server_table.specs.Runs.{Entry, Lack, LacksAll, LacksHost, LacksNothing, after, after_all, after_lacking}
 use Rattle.server_table.specs.Sound.{IsSound}
 use Rattle.server_table.specs.Step.{came, course_begun, datagram_as, device_came, device_passed, halted, is_over, line_came, line_said, moment_of, step, step_if}
 use Rattle.server_table.specs.internal.CallsKeepOrder.{CallsKeepOrder}
-use Rattle.server_table.proofs.Kept.{Kept, KeptParts, did_kept, done_kept, parts_sound, whole_sound}
+use Rattle.server_table.proofs.Kept.{Kept, done_kept, parts_sound, whole_sound}
+use Rattle.server_table.proofs.Keeps.{did_kept}
 use Rattle.server_table.proofs.KeptData.{data_settled}
 use Rattle.server_table.proofs.KeptEngine.{down_settled, engine_settled, file_settled}
 use Rattle.server_table.proofs.KeptPackets.{device_ready_kept, sealed_kept}

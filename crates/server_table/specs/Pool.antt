@@ -1,5 +1,5 @@
 -- What it means that an address is free.
-use Rattle.std.specs.Prelude.{◌≡◌, ℕ, ◌≤◌, Bool, true, false, Some, slice_get}
+use Rattle.std.specs.Prelude.{◌≡◌, ℕ, ◌≤◌, true, false, Some, slice_get}
 use Rattle.vpn_base.specs.declared.address.Ip4.{Ip4}
 use Rattle.address_pool.specs.LeastFree.{is_taken}
 use Rattle.server_table.specs.Table.{Client, Established, Table}
