@@ -14,3 +14,8 @@ pub mod Runs
 pub mod Senders
 pub mod Sealed
 pub mod Sound
+pub mod Pool
+pub mod Numbers
+pub mod Refusals
+pub mod GivenUp
+pub mod internal

@@ -1,0 +1,171 @@
+-- What a course has kept since its step began.
+use Rattle.std.proofs.Common.{◌≡◌, ◌≤◌, ℕ, zero, suc, ◌^◌, Bool, true, false, not, List, [], ◌∷◌, ◌++◌, length, Some, refl, sym, ap, ◌∙◌, subst, inl, inr}
+use Rattle.std.specs.Prelude.{◌⊎◌, ◌==◌, slice_get}
+use Rattle.std.proofs.lemmas.Bool.{and_from, and_parts}
+use Rattle.vpn_base.specs.declared.address.Addr.{Addr}
+use Rattle.vpn_base.specs.declared.names.Role.{Role}
+use Rattle.vpn_base.specs.declared.names.Sid.{Sid}
+use Rattle.vpn_links.specs.Actions.{Action, Report}
+use Rattle.route_table.specs.Owner.{Row}
+use Rattle.peer_table.specs.Places.{changed_at}
+use Rattle.peer_table.specs.Orderly.{IsOrderly, IsOrderlyFrom}
+use Rattle.peer_table.specs.Outboxes.{actions_of}
+use Rattle.peer_table.specs.Peer.{Closes, Doing, Opens, Peer, Puts, Writes}
+use Rattle.server_table.specs.Table.{Client, Table}
+use Rattle.server_table.specs.Lookups.{has_peer_id, has_session}
+use Rattle.server_table.specs.Courses.{Course}
+use Rattle.server_table.specs.Sound.{AreOrderly, AreRowsOf, AtMostOne, IsSound}
+use Rattle.server_table.specs.Numbers.{AreStill, IsStillAt}
+use Rattle.server_table.specs.Refusals.{is_refusing_note}
+use Rattle.server_table.proofs.Places.{WasChanged, got_changed, none_some, some_same}
+use Rattle.server_table.proofs.Sessions.{changed_back, shadowed}
+
+-- a peer's own session id of the other end is the one that it has
+pub orderly_from : (p : Peer) → IsOrderly p.sessions → IsOrderlyFrom p.remote p
+orderly_from p o = record { orderly = o; is_remote = refl }
+
+-- ---- what was done
+
+-- whether an effect is a note of what was refused with nothing done
+abbrev pub is_refusing : Action → Bool
+is_refusing (Report note) = is_refusing_note note
+is_refusing _ = false
+
+-- whether effects begin with something else, if they begin
+abbrev pub begins_late : List Action → Bool
+begins_late [] = true
+begins_late (action ∷ actions) = not (is_refusing action)
+
+pub late_append : (done more : List Action) → begins_late done ≡ true → begins_late more ≡ true → begins_late (done ++ more) ≡ true
+late_append [] more d m = m
+late_append (action ∷ done) more d m = d
+
+pub late_actions : (role : Role) (doings : List Doing) → begins_late (actions_of role doings) ≡ true
+late_actions role [] = refl
+late_actions role (Opens conn ∷ doings) = refl
+late_actions role (Puts conn bytes ∷ doings) = refl
+late_actions role (Writes conn bytes ∷ doings) = refl
+late_actions role (Closes conn ∷ doings) = refl
+
+-- ---- the parts of a table of which much is known
+
+-- what holds of a sound table, by its parts
+pub record IsSoundOf (moment : ℕ) (clients : List Client) (rows : List Row) : Type 0 where
+  pub early : moment ≤ 2 ^ 52
+  pub orderly : AreOrderly clients
+  pub peer_ids : (peer_id : ℕ) → AtMostOne (has_peer_id peer_id) clients
+  pub sessions : (from : Addr) (sid : Sid) → AtMostOne (has_session from sid) clients
+  pub owned : AreRowsOf clients rows
+
+pub parts_sound : (t : Table) → IsSound t → IsSoundOf t.moment t.clients t.routes.rows
+parts_sound t s = record { early = s.moment; orderly = s.orderly; peer_ids = s.peer_ids; sessions = s.sessions; owned = s.rows }
+
+pub whole_sound : (t : Table) → IsSoundOf t.moment t.clients t.routes.rows → IsSound t
+whole_sound t s = record { moment = s.early; orderly = s.orderly; peer_ids = s.peer_ids; sessions = s.sessions; rows = s.owned }
+
+-- What was kept since a table: its moment; so many clients there are; and if it was sound, all is sound, and each client is there still.
+-- What was done does not begin with a refusal.
+pub record KeptParts (a : Table) (k : ℕ) (moment : ℕ) (clients : List Client) (rows : List Row) (done : List Action) : Type 0 where
+  pub moment_same : moment ≡ a.moment
+  pub count : length clients ≡ k
+  pub sound : IsSound a → IsSoundOf moment clients rows
+  pub still : IsSound a → AreStill a.clients clients
+  pub late : begins_late done ≡ true
+
+abbrev pub Kept : Table → ℕ → Course → Type 0
+Kept a k c = KeptParts a k c.table.moment c.table.clients c.table.routes.rows c.effects
+
+-- ---- changes of one client
+
+pub changed_count : (n : ℕ) (f : Client → Client) (clients : List Client) → length (changed_at n f clients) ≡ length clients
+changed_count n f [] = refl
+changed_count zero f (x ∷ clients) = refl
+changed_count (suc n) f (x ∷ clients) = ap suc (changed_count n f clients)
+
+-- where a client stands in a changed list: changed at its place, or as it was
+pub went_changed : (n i : ℕ) (f : Client → Client) (clients : List Client) (x : Client) → slice_get clients i ≡ Some x →
+    ((i ≡ n) × (slice_get (changed_at n f clients) i ≡ Some (f x))) ⊎ (slice_get (changed_at n f clients) i ≡ Some x)
+went_changed n i f [] x e = absurd (none_some e)
+went_changed zero zero f (y ∷ clients) x e = inl (refl, ap (λ (z : Client). Some (f z)) (some_same e))
+went_changed zero (suc i) f (y ∷ clients) x e = inr e
+went_changed (suc n) zero f (y ∷ clients) x e = inr e
+went_changed (suc n) (suc i) f (y ∷ clients) x e = next (went_changed n i f clients x e)
+  where
+    next : ((i ≡ n) × (slice_get (changed_at n f clients) i ≡ Some (f x))) ⊎ (slice_get (changed_at n f clients) i ≡ Some x) →
+        ((suc i ≡ suc n) × (slice_get (changed_at n f clients) i ≡ Some (f x))) ⊎ (slice_get (changed_at n f clients) i ≡ Some x)
+    next (inl w) = inl (ap suc w.0, w.1)
+    next (inr e) = inr e
+
+-- a change that a client stays itself by
+pub record Changes (y z : Client) : Type 0 where
+  pub peer_id : z.peer_id ≡ y.peer_id
+  pub here : z.is_here ≡ true → y.is_here ≡ true
+  pub session : IsOrderly y.session.sessions → IsOrderly z.session.sessions
+  pub remote : IsOrderly y.session.sessions → (sid : Sid) → y.session.remote ≡ Some sid → z.session.remote ≡ Some sid
+
+changed_orderly : (n : ℕ) (f : Client → Client) (clients : List Client) → ((y : Client) → slice_get clients n ≡ Some y → Changes y (f y)) →
+    AreOrderly clients → AreOrderly (changed_at n f clients)
+changed_orderly n f clients changes orderly i z there = go (got_changed n i f clients z there)
+  where
+    go : WasChanged n i f clients z ⊎ (slice_get clients i ≡ Some z) → IsOrderly z.session.sessions
+    go (inl w) =
+        let there : slice_get clients n ≡ Some w.item = subst (λ (k : ℕ). slice_get clients k ≡ Some w.item) w.place w.there in
+        subst (λ (y : Client). IsOrderly y.session.sessions) (sym w.changed) ((changes w.item there).session (orderly n w.item there))
+    go (inr e) = orderly i z e
+
+passes_peer_id : (peer_id : ℕ) (y z : Client) → Changes y z → has_peer_id peer_id z ≡ true → has_peer_id peer_id y ≡ true
+passes_peer_id peer_id y z changes is =
+    let p = and_parts z.is_here (z.peer_id == peer_id) is in
+    and_from y.is_here (y.peer_id == peer_id) (changes.here p.0) (ap (λ (id : ℕ). id == peer_id) (sym changes.peer_id) ∙ p.1)
+
+changed_still : (n : ℕ) (f : Client → Client) (before clients : List Client) → ((y : Client) → slice_get clients n ≡ Some y → Changes y (f y)) →
+    AreOrderly clients → AreStill before clients → AreStill before (changed_at n f clients)
+changed_still n f before clients changes orderly still i x there =
+    let s = still i x there in go s (went_changed n i f clients s.client s.there)
+  where
+    go : (s : IsStillAt clients i x) → ((i ≡ n) × (slice_get (changed_at n f clients) i ≡ Some (f s.client))) ⊎ (slice_get (changed_at n f clients) i ≡ Some s.client) →
+        IsStillAt (changed_at n f clients) i x
+    go s (inl w) =
+        let at : slice_get clients n ≡ Some s.client = subst (λ (k : ℕ). slice_get clients k ≡ Some s.client) w.0 s.there in
+        let ch = changes s.client at in
+        record {
+          client = f s.client;
+          there = w.1;
+          peer_id = ch.peer_id ∙ s.peer_id;
+          remote = λ sid is. ch.remote (orderly n s.client at) sid (s.remote sid is);
+          here = λ is. s.here (ch.here is);
+        }
+    go s (inr e) = record { client = s.client; there = e; peer_id = s.peer_id; remote = s.remote; here = s.here }
+
+module _ {a : Table} {k : ℕ} where
+  -- a change of one client, by what it does to addresses and rows
+  pub altered : {m : ℕ} {clients : List Client} {rows : List Row} {done : List Action} (later : List Row) (n : ℕ) (f : Client → Client) →
+      ((y : Client) → slice_get clients n ≡ Some y → Changes y (f y)) →
+      (IsSound a → IsSoundOf m clients rows → (from : Addr) (sid : Sid) → AtMostOne (has_session from sid) (changed_at n f clients)) →
+      (IsSoundOf m clients rows → AreRowsOf (changed_at n f clients) later) →
+      KeptParts a k m clients rows done → KeptParts a k m (changed_at n f clients) later done
+  altered {clients = clients} later n f changes sessions owned is = record {
+    moment_same = is.moment_same;
+    count = changed_count n f clients ∙ is.count;
+    sound = λ s. let p = is.sound s in record {
+      early = p.early;
+      orderly = changed_orderly n f clients changes p.orderly;
+      peer_ids = λ peer_id. shadowed (has_peer_id peer_id) clients (changed_at n f clients)
+          (changed_back (has_peer_id peer_id) n f clients (λ y there. passes_peer_id peer_id y (f y) (changes y there))) (p.peer_ids peer_id);
+      sessions = sessions s p;
+      owned = owned p;
+    };
+    still = λ s. changed_still n f a.clients clients changes (is.sound s).orderly (is.still s);
+    late = is.late;
+  }
+
+  -- something more was done
+  pub done_kept : {m : ℕ} {clients : List Client} {rows : List Row} {done : List Action} (more : List Action) → begins_late more ≡ true →
+      KeptParts a k m clients rows done → KeptParts a k m clients rows (done ++ more)
+  done_kept {done = done} more late is = record {
+    moment_same = is.moment_same;
+    count = is.count;
+    sound = is.sound;
+    still = is.still;
+    late = late_append done more is.late late;
+  }
