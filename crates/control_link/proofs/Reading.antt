@@ -4,15 +4,20 @@ use Rattle.std.proofs.lemmas.Bool.{ne_eqb, eq-eqb}
 use Rattle.std.proofs.lemmas.List.{length-append, take_more}
 use Rattle.reliable_send.specs.Sending.{Sending, acked}
 use Rattle.reliable_recv.specs.Receiving.{Arrival, Receiving, after_next, next_payload, payload_of}
-use Rattle.reliable_recv.specs.Sides.{Stands}
+use Rattle.reliable_recv.specs.Sides.{IsKeptOf, Side, Stands}
 use Rattle.control_link.specs.Links.{payloads_below}
 use Rattle.control_link.specs.Calls.{after_given, all_acked, given_by, past_reset}
 
+-- room alone changes nothing of what a side stands for
+pub same_kept : (side other : Side) (r : Receiving) → other.kept ≡ side.kept → Stands side r → Stands other r
+unfolding Stands
+same_kept side other r same stands = subst (λ (k : Receiving). IsKeptOf k r) (sym same) stands
+
 -- payload 0 is read where nothing was read yet
-pub passed : (side r : Receiving) → r.read ≡ 0 → Stands side (after_next r) → Stands side (past_reset r)
+pub passed : (side : Side) (r : Receiving) → r.read ≡ 0 → Stands side (after_next r) → Stands side (past_reset r)
 passed side r none stands = subst (λ (b : Bool). Stands side (if b then after_next r else r)) (sym (eq-eqb r.read 0 none)) stands
 
-pub not_passed : (side r : Receiving) → ¬ (r.read ≡ 0) → Stands side r → Stands side (past_reset r)
+pub not_passed : (side : Side) (r : Receiving) → ¬ (r.read ≡ 0) → Stands side r → Stands side (past_reset r)
 not_passed side r some stands = subst (λ (b : Bool). Stands side (if b then after_next r else r)) (sym (ne_eqb r.read 0 some)) stands
 
 pub none_given : (r : Receiving) → r.read ≡ 0 → given_by r ≡ None
@@ -21,10 +26,10 @@ none_given r none = ap (λ (b : Bool). if b then None else next_payload r) (eq-e
 pub one_given : (r : Receiving) → ¬ (r.read ≡ 0) → given_by r ≡ next_payload r
 one_given r some = ap (λ (b : Bool). if b then None else next_payload r) (ne_eqb r.read 0 some)
 
-pub none_after : (side r : Receiving) → r.read ≡ 0 → Stands side r → Stands side (after_given r)
+pub none_after : (side : Side) (r : Receiving) → r.read ≡ 0 → Stands side r → Stands side (after_given r)
 none_after side r none stands = subst (λ (b : Bool). Stands side (if b then r else after_next r)) (sym (eq-eqb r.read 0 none)) stands
 
-pub one_after : (side r : Receiving) → ¬ (r.read ≡ 0) → Stands side (after_next r) → Stands side (after_given r)
+pub one_after : (side : Side) (r : Receiving) → ¬ (r.read ≡ 0) → Stands side (after_next r) → Stands side (after_given r)
 one_after side r some stands = subst (λ (b : Bool). Stands side (if b then r else after_next r)) (sym (ne_eqb r.read 0 some)) stands
 
 -- one id more is acknowledged
