@@ -17,12 +17,13 @@ use Rattle.control_link.specs.Links.{Link, link_begun}
 use Rattle.control_link.specs.Calls.{Outcome, after_text, next_text, received, said, ticked}
 use Rattle.control_link.specs.Reading.{IsReadUp, NothingWaits, read_here, read_with, taken_with, text_read_of, texts_here, texts_with}
 use Rattle.control_link.specs.Runs.{Course, EventAt, after_event, after_events, arrival_if, arrivals_in, brought, brought_by, course_begun, course_of, event_comes, packet_comes}
-use Rattle.control_link.proofs.TextLaws.{IsGiven, nothing_read}
+use Rattle.control_link.proofs.TextLaws.{IsGiven}
 
 -- what the law on reading says
 pub record Gives : Type 0 where
   pub begun : (conn : Conn) (kid : ℕ) (first : Opcode) (timeout : ℕ) → NothingWaits (link_begun conn kid first timeout)
   pub none : (l : Link) → NothingWaits l → next_text l ≡ None
+  pub still : (l : Link) → NothingWaits l → after_text l ≡ l
   pub whole : (l : Link) → NothingWaits l → text_read_of l ≡ text l.receiving.taken
   pub given : (l : Link) (h : EnvelopeHistory) (v : ControlForm) (remote : Sid) (now : ℕ) → NothingWaits l →
       IsGiven l (read_here 12 (received l h v remote now).link) (texts_here 12 (received l h v remote now).link) v.id v.payload
@@ -43,7 +44,7 @@ record IsMore (l m : Link) (a : Option Arrival) : Type 0 where
 -- where nothing was put, nothing is read
 reads_nothing : Gives → (m : Link) → NothingWaits m → read_here 12 m ≡ m
 unfolding read_here
-reads_nothing law m up = ap (λ (o : Option (List ℕ)). read_with o (after_text m) (read_here 11 (after_text m))) (law.none m up) ∙ nothing_read m up
+reads_nothing law m up = ap (λ (o : Option (List ℕ)). read_with o (after_text m) (read_here 11 (after_text m))) (law.none m up) ∙ law.still m up
 
 gives_nothing : Gives → (m : Link) → NothingWaits m → texts_here 12 m ≡ []
 unfolding texts_here

@@ -269,6 +269,7 @@ pub record IsGiven (l after : Link) (texts : List (List ℕ)) (id : Option ℕ) 
 
 given_side : Reads → Takes → (l m : Link) (id : Option ℕ) (payload : List ℕ) → NothingWaits l → m.receiving ≡ after_acks (put_if l.receiving id payload) 8 →
     IsGiven l (read_here 12 m) (texts_here 12 m) id payload
+unfolding text_read
 given_side rs ts l m id payload up is =
     let r : Receiving = l.receiving in
     let e : r ≡ reached r.taken = up_reached rs r up in
@@ -302,6 +303,7 @@ pub waits_none : (conn : Conn) (kid : ℕ) (first : Opcode) (timeout : ℕ) → 
 waits_none conn kid first timeout = record { read = λ id below. absurd (omega (arith, below)); none = refl; near = λ id here. absurd (let never : false ≡ true = here in cc); acknowledged = refl }
 
 pub whole_text : Reads → Takes → (l : Link) → NothingWaits l → text_read_of l ≡ text l.receiving.taken
+unfolding text_read
 whole_text rs ts l up = ap text_read (up_reached rs l.receiving up) ∙ ts.text l.receiving.taken
 
 -- where the next payload is not here, reading changes nothing and gives nothing

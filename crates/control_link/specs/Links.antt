@@ -1,5 +1,5 @@
 -- One key session's control link: everything that was sent and taken on it.
-use Rattle.std.specs.Prelude.{◌≡◌, ℕ, zero, suc, Bool, false, List, [], ◌∷◌, ◌++◌, map, unwrap_or}
+use Rattle.std.specs.Prelude.{◌≡◌, ℕ, Bool, false, List, map}
 use Rattle.vpn_base.specs.declared.names.Conn.{Conn}
 use Rattle.opcode_codec.specs.declared.opcodes.Opcode.{Opcode}
 use Rattle.opcode_codec.specs.declared.opcodes.Opcode.TheVariants.{SoftReset, ClientReset, ServerReset}
@@ -50,14 +50,9 @@ pub record IsLinkOf (k : KeptLink) (l : Link) : Type 0 where
 unfoldable pub LinkStands : KeptLink → Link → Type 0
 LinkStands k l = IsLinkOf k l
 
--- the payloads of the ids below this one, in order
-abbrev pub payloads_below : ℕ → List recv.Arrival → List (List ℕ)
-payloads_below zero taken = []
-payloads_below (suc n) taken = payloads_below n taken ++ unwrap_or (recv.payload_of taken n) [] ∷ []
-
--- the payloads of a link that were read, that of packet 0 included
+-- the payloads of a link that were read, in order, that of packet 0 included
 abbrev pub read_of : Link → List (List ℕ)
-read_of l = payloads_below l.receiving.read l.receiving.taken
+read_of l = recv.in_order l.receiving.read l.receiving.taken 0
 
 -- the pieces that were offered on it, piece 0 included
 abbrev pub written_of : Link → List (List ℕ)

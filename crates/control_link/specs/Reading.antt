@@ -1,8 +1,9 @@
 -- Reading the text of a link: what is here in order, and what was read.
-use Rattle.std.specs.Prelude.{◌≡◌, ℕ, zero, suc, ◌+◌, ◌<◌, List, [], ◌∷◌, Option, Some, None, IsSome}
+use Rattle.std.specs.Prelude.{◌≡◌, ℕ, zero, suc, ◌+◌, ◌<◌, List, [], ◌∷◌, drop, Option, Some, None, IsSome}
+use Rattle.std.specs.List.{concat}
 use Rattle.reliable_recv.specs.Receiving.{Arrival, Receiving, next_payload, payload_of, taken_after}
-use Rattle.reliable_recv.specs.Runs.{IsRead, text_read}
-use Rattle.control_link.specs.Links.{Link}
+use Rattle.reliable_recv.specs.Runs.{IsRead}
+use Rattle.control_link.specs.Links.{Link, read_of}
 use Rattle.control_link.specs.Calls.{after_text, next_text}
 
 -- a payload of the text, if it is here, and those behind it
@@ -27,9 +28,9 @@ read_here (suc most) l = read_with (next_text l) (after_text l) (read_here most 
 
 -- ---- what was read
 
--- the text of a link that was read: the payloads of the ids 1, 2, 3, .. below the number that was read, joined
+-- the text of a link that was read: the payloads that were read but that of packet 0, joined
 abbrev pub text_read_of : Link → List ℕ
-text_read_of l = text_read l.receiving
+text_read_of l = concat (drop 1 (read_of l))
 
 -- no packet that was taken has an id of this number or above
 abbrev pub AreBelow : ℕ → List Arrival → Type 0

@@ -10,7 +10,7 @@ ghost use Rattle.reliable_recv.specs.Prefix.{IsPrefix};
 ghost use Rattle.reliable_recv.specs.Receiving.{text, text_of};
 ghost use Rattle.control_link.specs.Envelope.{EnvelopeHistory};
 ghost use Rattle.control_link.specs.Links.{Link, link_begun};
-ghost use Rattle.control_link.specs.Calls.{next_text, received, said, ticked, with_ready};
+ghost use Rattle.control_link.specs.Calls.{after_text, next_text, received, said, ticked, with_ready};
 ghost use Rattle.control_link.specs.Reading.{NothingWaits, read_here, taken_with, text_read_of, texts_here};
 ghost use Rattle.control_link.specs.Texts.{Carries, arrivals_of, pieces_of};
 
@@ -26,13 +26,14 @@ pub fn reads_a_front()
     reads_a_prefix();
 }
 
-/// Nothing waits to be read on a fresh link, and where nothing waits, the text that was read is the text of
-/// what was taken. Once a packet came then, and the payloads that are here were read, at most 12, the text
-/// has grown by exactly the payloads that were given, and nothing waits again. Sending and time leave alone
-/// what was taken and read.
+/// Nothing waits to be read on a fresh link, and where nothing waits, reading gives nothing and changes
+/// nothing, and the text that was read is the text of what was taken. Once a packet came then, and the
+/// payloads that are here were read, at most 12, the text has grown by exactly the payloads that were
+/// given, and nothing waits again. Sending and time leave alone what was taken and read.
 pub fn reads_what_is_given()
     ensures begun { (conn : Conn) (kid : ℕ) (first : Opcode) (timeout : ℕ) → NothingWaits (link_begun conn kid first timeout) }
     ensures none { (l : Link) → NothingWaits l → next_text l ≡ None }
+    ensures still { (l : Link) → NothingWaits l → after_text l ≡ l }
     ensures whole { (l : Link) → NothingWaits l → text_read_of l ≡ text l.receiving.taken }
     ensures given { (l : Link) (h : EnvelopeHistory) (v : ControlForm) (remote : Sid) (now : ℕ) → NothingWaits l →
         text_read_of (read_here 12 (received l h v remote now).link) ≡ text_read_of l ++ concat (texts_here 12 (received l h v remote now).link) }

@@ -1,4 +1,4 @@
-use Rattle.control_link.proofs.TextLaws.{Reads, Takes, given, no_text_next, ready_side, said_side, ticked_side, waits_none, whole_text}
+use Rattle.control_link.proofs.TextLaws.{Reads, Takes, given, no_text_next, nothing_read, ready_side, said_side, ticked_side, waits_none, whole_text}
 use Rattle.control_link.proofs.laws.reads_what_is_given.Goals as goal
 
 -- what the receiving side says of reading and of packets
@@ -18,6 +18,7 @@ pub returns : goal.returns
 returns c = record {
   begun = waits_none;
   none = no_text_next;
+  still = nothing_read;
   whole = whole_text (reads c) (takes c);
   given = λ l h v remote now up. (given (reads c) (takes c) l h v remote now up).text;
   taken = λ l h v remote now up. (given (reads c) (takes c) l h v remote now up).taken;

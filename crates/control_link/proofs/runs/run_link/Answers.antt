@@ -51,6 +51,7 @@ returns-clause-text g c =
     (record {
       begun = c.reads_what_is_given.ensures.begun;
       none = c.reads_what_is_given.ensures.none;
+      still = c.reads_what_is_given.ensures.still;
       whole = c.reads_what_is_given.ensures.whole;
       given = λ l h v remote now up. record { text = c.reads_what_is_given.ensures.given l h v remote now up; taken = c.reads_what_is_given.ensures.taken l h v remote now up; up = c.reads_what_is_given.ensures.again l h v remote now up };
       said = c.reads_what_is_given.ensures.said;
