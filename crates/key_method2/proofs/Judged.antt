@@ -1,10 +1,9 @@
 -- What reading answers is what has to be answered.
 use Rattle.std.proofs.Common.{◌≡◌, ℕ, zero, suc, ◌+◌, ◌≤◌, ◌⊎◌, List, [], ◌∷◌, ◌++◌, length, take, drop, Result, Ok, Err, refl, sym, ap, subst, ◌∙◌, inl, inr, arith}
-use Rattle.std.specs.Prelude.{IfOk, ◌↔◌}
+use Rattle.std.specs.Prelude.{◌↔◌}
 use Rattle.std.proofs.lemmas.Bool.{cases_lt}
 use Rattle.std.proofs.lemmas.List.{take-append-drop, append-nil}
 use Rattle.vpn_base.specs.declared.names.Role.{Role}
-use Rattle.vpn_base.specs.declared.errors.NoMemory.{NoMemory}
 use Rattle.key_method2.specs.declared.message.Km2.{Km2}
 use Rattle.key_method2.specs.declared.message.Km2Bad.{Km2Bad}
 use Rattle.key_method2.specs.declared.message.Km2Read.{Km2Read}
@@ -73,13 +72,10 @@ take_twice (suc m) (suc n) (byte ∷ bytes) le = ap (λ (rest : List ℕ). byte 
 
 -- ---- the clauses
 
-abbrev Answer : Type 0
-Answer = Result Km2Read NoMemory
-
-pub is_found : (from : Role) (bytes : List ℕ) (r : Answer) → IsBytes bytes → IfOk r (λ read. read ≡ reading from bytes)
-    → IfOk r (λ read. (message : Km2) (used : ℕ) → read ≡ Whole message used → IsFound from bytes message used)
+pub is_found : (from : Role) (bytes : List ℕ) (read : Km2Read) → IsBytes bytes → read ≡ reading from bytes
+    → (message : Km2) (used : ℕ) → read ≡ Whole message used → IsFound from bytes message used
 unfolding reading
-is_found from bytes (Ok read) fits is = λ message used whole. go message used (parts_at from bytes) refl (sym is ∙ whole) where
+is_found from bytes read fits is = λ message used whole. go message used (parts_at from bytes) refl (sym is ∙ whole) where
   go : (message : Km2) (used : ℕ) (r : Parts) → parts_at from bytes ≡ r → answer_to r ≡ Whole message used → IsFound from bytes message used
   go message used (Ok x) e answer =
       let same : x.0 ≡ message = cc in
@@ -87,23 +83,20 @@ is_found from bytes (Ok read) fits is = λ message used whole. go message used (
       subst (λ (m : Km2). IsFound from bytes m used) same (subst (IsFound from bytes x.0) end (parts_taken from bytes x.0 x.1 fits e))
   go message used (Err Cut) e answer = absurd cc
   go message used (Err (Wrong place)) e answer = absurd cc
-is_found from bytes (Err e) fits is = tt
 
-pub all_texts_found : (from : Role) (bytes : List ℕ) (r : Answer) → IfOk r (λ read. read ≡ reading from bytes)
-    → IfOk r (λ read. (front rest : List ℕ) (message : Km2) → bytes ≡ front ++ rest → HasAllTexts from front message → read ≡ Whole message (length front))
+pub all_texts_found : (from : Role) (bytes : List ℕ) (read : Km2Read) → read ≡ reading from bytes
+    → (front rest : List ℕ) (message : Km2) → bytes ≡ front ++ rest → HasAllTexts from front message → read ≡ Whole message (length front)
 unfolding reading
-all_texts_found from bytes (Ok read) is = λ front rest message whole has. is ∙ ap answer_to (all_read from bytes front rest message whole has)
-all_texts_found from bytes (Err e) is = tt
+all_texts_found from bytes read is = λ front rest message whole has. is ∙ ap answer_to (all_read from bytes front rest message whole has)
 
-pub early_found : (from : Role) (bytes : List ℕ) (r : Answer) → IfOk r (λ read. read ≡ reading from bytes)
-    → IfOk r (λ read. (message : Km2) → EndsEarly from bytes message → read ≡ Whole message (length bytes))
+pub early_found : (from : Role) (bytes : List ℕ) (read : Km2Read) → read ≡ reading from bytes
+    → (message : Km2) → EndsEarly from bytes message → read ≡ Whole message (length bytes)
 unfolding reading
-early_found from bytes (Ok read) is = λ message has. is ∙ ap answer_to (early_read from bytes message has)
-early_found from bytes (Err e) is = tt
+early_found from bytes read is = λ message has. is ∙ ap answer_to (early_read from bytes message has)
 
-pub is_more : (from : Role) (bytes : List ℕ) (r : Answer) → IsBytes bytes → IfOk r (λ read. read ≡ reading from bytes) → IfOk r (λ read. (read ≡ More) ↔ IsCut from bytes)
+pub is_more : (from : Role) (bytes : List ℕ) (read : Km2Read) → IsBytes bytes → read ≡ reading from bytes → (read ≡ More) ↔ IsCut from bytes
 unfolding reading
-is_more from bytes (Ok read) fits is = ((λ more. there (parts_at from bytes) refl (sym is ∙ more)), (λ cut. is ∙ back cut (parts_at from bytes) refl)) where
+is_more from bytes read fits is = ((λ more. there (parts_at from bytes) refl (sym is ∙ more)), (λ cut. is ∙ back cut (parts_at from bytes) refl)) where
   there : (r : Parts) → parts_at from bytes ≡ r → answer_to r ≡ More → IsCut from bytes
   there (Ok x) e answer = absurd cc
   there (Err Cut) e answer = record { begins = parts_cut from bytes fits e; none_early = (none_found from bytes Cut e).1; none_in_front = (none_found from bytes Cut e).0 }
@@ -113,12 +106,11 @@ is_more from bytes (Ok read) fits is = ((λ more. there (parts_at from bytes) re
   back cut (Ok x) e = absurd (cut.none_early x.0 (not_found from bytes x.0 x.1 (parts_taken from bytes x.0 x.1 fits e) cut.none_in_front))
   back cut (Err Cut) e = refl
   back cut (Err (Wrong place)) e = absurd (none_begins from bytes place (parts_wrong from bytes place fits e) (Begins-take from bytes (place + 1) cut.begins))
-is_more from bytes (Err e) fits is = tt
 
-pub is_bad : (from : Role) (bytes : List ℕ) (r : Answer) → IsBytes bytes → IfOk r (λ read. read ≡ reading from bytes)
-    → IfOk r (λ read. (place : ℕ) (kind : Km2Bad) → (read ≡ Bad place kind) ↔ IsWrongAt from bytes place kind)
+pub is_bad : (from : Role) (bytes : List ℕ) (read : Km2Read) → IsBytes bytes → read ≡ reading from bytes
+    → (place : ℕ) (kind : Km2Bad) → (read ≡ Bad place kind) ↔ IsWrongAt from bytes place kind
 unfolding reading
-is_bad from bytes (Ok read) fits is = λ place kind. ((λ bad. there place kind (parts_at from bytes) refl (sym is ∙ bad)), (λ wrong. is ∙ back place kind wrong (parts_at from bytes) refl)) where
+is_bad from bytes read fits is = λ place kind. ((λ bad. there place kind (parts_at from bytes) refl (sym is ∙ bad)), (λ wrong. is ∙ back place kind wrong (parts_at from bytes) refl)) where
   there : (place : ℕ) (kind : Km2Bad) (r : Parts) → parts_at from bytes ≡ r → answer_to r ≡ Bad place kind → IsWrongAt from bytes place kind
   there place kind (Ok x) e answer = absurd cc
   there place kind (Err Cut) e answer = absurd cc
@@ -143,4 +135,3 @@ is_bad from bytes (Ok read) fits is = λ place kind. ((λ bad. there place kind 
           | inr not_later ↦ let same : here ≡ place = omega arith in ap (λ (p : ℕ). Bad p (kind_at p)) same ∙ ap (Bad place) (sym wrong.is_kind)
         ]
       ]
-is_bad from bytes (Err e) fits is = tt

@@ -2,9 +2,13 @@
 
 ghost use Rattle.std.specs.Prelude.{◌≡◌, find};
 ghost use Rattle.std.specs.Option.{option_copied};
-ghost use Rattle.key_method2.specs.Info.{value_in, value_of, is_named, offers};
+ghost use Rattle.key_method2.specs.Info.{value_in, value_of, is_named, offers, asks_push, has_bit_2, spells_bit_2};
 
-use vpn_base::{Cipher, split_once};
+use vpn_base::{Cipher, read_number, split_once};
+
+/// The bit of IV_PROTO by which a client asks to be established at once (OpenVPN's ssl.h,
+/// IV_PROTO_REQUEST_PUSH).
+const REQUEST_PUSH: u64 = 4;
 
 // The value of a line that begins with the name and an equals sign.
 fn value_in_line<'a>(line: &'a [u8], name: &[u8]) -> Option<&'a [u8]>
@@ -62,5 +66,20 @@ pub fn choose_cipher(ours: &[Cipher], info: &[u8]) -> Option<Cipher>
             .iter()
             .copied()
             .find(|cipher| is_one_of(names, cipher.name())),
+    }
+}
+
+/// Whether the peer info asks to be established at once: `IV_PROTO` is a decimal number below 2^64, with
+/// no leading zero, whose bit of value 4 is set.
+#[tactic(auto, unfolding(crate::specs::Info::asks_push))]
+pub fn asks_push(info: &[u8]) -> bool
+    ensures { result ≡ asks_push info.now }
+{
+    match info_value(info, b"IV_PROTO") {
+        None => false,
+        Some(text) => match read_number(text, u64::MAX) {
+            None => false,
+            Some(number) => number & REQUEST_PUSH != 0,
+        },
     }
 }

@@ -7,10 +7,10 @@ mod reading;
 mod stop;
 mod writing;
 
-pub use info::{choose_cipher, info_value};
-pub use message::{Km2, Km2Bad, Km2Read, Source};
-pub use reading::read_km2;
-pub use writing::write_km2;
+pub use info::{asks_push, choose_cipher, info_value};
+pub use message::{Km2, Km2Bad, Km2Read, Km2View, Km2ViewRead, Source};
+pub use reading::{read_km2, read_km2_view};
+pub use writing::{client_message_is_read, server_message, write_km2};
 
 #[cfg(test)]
 mod tests;

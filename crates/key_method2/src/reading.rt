@@ -4,25 +4,16 @@ ghost use Rattle.std.specs.Prelude.{◌≡◌, ℕ, ◌+◌, ◌-◌, ◌≤◌,
 ghost use Rattle.key_method2.specs.Message.{HasAllTexts, EndsEarly, opening};
 ghost use Rattle.key_method2.specs.Judging.{IsFound, IsCut, IsWrongAt, kind_at};
 ghost use Rattle.key_method2.specs.Reading.{first_difference, opened, source_at, text_at, text_from, text_if_any, parts_at, reading};
-ghost use Rattle.key_method2.specs.Returned.{Gives, StopsBy, EndsBy, view};
+ghost use Rattle.key_method2.specs.Views.{message_seen, read_seen};
+ghost use Rattle.key_method2.specs.internal.Returned.{Gives, StopsBy, EndsBy};
 
-use crate::message::{Km2, Km2Bad, Km2Read, Source};
+use crate::message::{Km2, Km2Bad, Km2Read, Km2View, Km2ViewRead, Source};
 use crate::stop::Stop;
 use std::alloc::Global;
-use vpn_base::{NoMemory, Role, Text};
+use vpn_base::{NoMemory, Role};
 
 // Four zero bytes, and the byte that names key method 2.
 const OPENING: [u8; 5] = [0, 0, 0, 0, 2];
-
-// A message whose texts lie in the bytes that it is read from.
-#[derive(Clone, Copy)]
-struct Parts<'a> {
-    source: Source,
-    options: &'a [u8],
-    user: &'a [u8],
-    pass: &'a [u8],
-    info: &'a [u8],
-}
 
 // How far the opening stands at the front.
 fn opening_of(bytes: &[u8]) -> Result<usize, Stop>
@@ -135,8 +126,8 @@ fn next_text(bytes: &[u8], at: usize) -> Result<(&[u8], usize), Stop>
 
 // The message at the front, and where it ends.
 #[tactic(auto, unfolding(crate::specs::Reading::parts_at, crate::specs::Reading::texts_if_any))]
-fn parts_of(bytes: &[u8], from: Role) -> Result<(Parts<'_>, usize), Stop>
-    ensures gives { Gives (λ x. (view x.0, x.1)) result (parts_at from bytes.now) }
+fn parts_of(bytes: &[u8], from: Role) -> Result<(Km2View<'_>, usize), Stop>
+    ensures gives { Gives (λ x. (message_seen x.0, x.1)) result (parts_at from bytes.now) }
     ensures short { EndsBy 262265 result }
 {
     opening_of(bytes)?;
@@ -145,14 +136,14 @@ fn parts_of(bytes: &[u8], from: Role) -> Result<(Parts<'_>, usize), Stop>
     let (user, at) = next_text(bytes, at)?;
     let (pass, at) = next_text(bytes, at)?;
     let (info, at) = next_text(bytes, at)?;
-    let parts = Parts {
+    let view = Km2View {
         source,
         options,
         user,
         pass,
         info,
     };
-    Ok((parts, at))
+    Ok((view, at))
 }
 
 // What is wrong at a place.
@@ -168,42 +159,66 @@ fn kind_of(place: usize) -> Km2Bad
     }
 }
 
-// A message with texts of its own.
-fn owned(alloc: Global, parts: &Parts<'_>) -> Result<Km2, NoMemory>
-    ensures { IfOk result (λ message. message ≡ view parts.now) }
-{
-    Ok(Km2 {
-        source: parts.source,
-        options: Text::copy(alloc, parts.options)?,
-        user: Text::copy(alloc, parts.user)?,
-        pass: Text::copy(alloc, parts.pass)?,
-        info: Text::copy(alloc, parts.info)?,
-    })
-}
-
-// What reading answers.
+// What stands at the front, where it lies.
 #[tactic(auto, unfolding(crate::specs::Reading::reading))]
-fn read(alloc: Global, bytes: &[u8], from: Role) -> Result<Km2Read, NoMemory>
-    ensures { IfOk result (λ read. read ≡ reading from bytes.now) }
+fn look(bytes: &[u8], from: Role) -> Km2ViewRead<'_>
+    ensures { read_seen result ≡ reading from bytes.now }
 {
     match parts_of(bytes, from) {
-        Ok((parts, used)) => Ok(Km2Read::Whole {
-            message: owned(alloc, &parts)?,
-            used,
-        }),
-        Err(Stop::Cut) => Ok(Km2Read::More),
-        Err(Stop::Wrong(place)) => Ok(Km2Read::Bad {
+        Ok((view, used)) => Km2ViewRead::Whole { view, used },
+        Err(Stop::Cut) => Km2ViewRead::More,
+        Err(Stop::Wrong(place)) => Km2ViewRead::Bad {
             place: place as u32,
             kind: kind_of(place),
-        }),
+        },
     }
 }
 
-/// Reads the key exchange message of one end from the front of a plain text.
+// What stands at the front, with texts of its own.
+fn read(alloc: Global, bytes: &[u8], from: Role) -> Result<Km2Read, NoMemory>
+    ensures { IfOk result (λ read. read ≡ reading from bytes.now) }
+{
+    match look(bytes, from) {
+        Km2ViewRead::Whole { view, used } => Ok(Km2Read::Whole {
+            message: view.copy(alloc)?,
+            used,
+        }),
+        Km2ViewRead::More => Ok(Km2Read::More),
+        Km2ViewRead::Bad { place, kind } => Ok(Km2Read::Bad { place, kind }),
+    }
+}
+
+/// Finds the key exchange message of one end at the front of a plain text, whose texts stay where they lie. It takes no
+/// memory.
 ///
 /// `Whole` where the message with all four texts stands at the front, or else where all the bytes are one that ends
 /// behind its options, user name or password. `More` where the bytes are less than that and a message begins with
 /// them. `Bad` at the first byte that no message has in its place.
+pub fn read_km2_view(bytes: &[u8], from: Role) -> Km2ViewRead<'_>
+    // What is found is a message.
+    ensures found { (message : Km2) (used : ℕ) → read_seen result ≡ Km2Read.Whole message used → IsFound from bytes.now message used }
+
+    // A message with all four texts at the front is found, whatever follows it.
+    ensures all_texts { (front rest : List ℕ) (message : Km2) → bytes.now ≡ front ++ rest
+        → HasAllTexts from front message → read_seen result ≡ Km2Read.Whole message (length front) }
+
+    // All the bytes are found where they are a message that ends early.
+    ensures early { (message : Km2) → EndsEarly from bytes.now message → read_seen result ≡ Km2Read.Whole message (length bytes.now) }
+
+    // More has to come exactly where the bytes are less than a message.
+    ensures more { (read_seen result ≡ Km2Read.More) ↔ IsCut from bytes.now }
+
+    // The place and the kind are those of the first byte that no message has there.
+    ensures bad { (place : ℕ) (kind : Km2Bad) → (read_seen result ≡ Km2Read.Bad place kind) ↔ IsWrongAt from bytes.now place kind }
+
+    // All of this as one function of the bytes.
+    ensures exact { read_seen result ≡ reading from bytes.now }
+{
+    look(bytes, from)
+}
+
+/// Reads the key exchange message of one end from the front of a plain text, as `read_km2_view` finds it, with texts of
+/// its own.
 pub fn read_km2(alloc: Global, bytes: &[u8], from: Role) -> Result<Km2Read, NoMemory>
     // What is found is a message.
     ensures found { IfOk result (λ read. (message : Km2) (used : ℕ) → read ≡ Km2Read.Whole message used → IsFound from bytes.now message used) }

@@ -1,7 +1,11 @@
 //! Writing a key exchange message.
 
-ghost use Rattle.std.specs.Prelude.{◌≡◌, ◌≤◌, ◌++◌, length, OnOk, IfOk};
+ghost use Rattle.std.specs.Prelude.{◌≡◌, ◌+◌, ◌≤◌, ◌++◌, List, take, length, OnOk, IfOk};
 ghost use Rattle.key_method2.specs.Message.{HasAllTexts, IsSource, source_bytes};
+ghost use Rattle.vpn_base.specs.declared.names.Cipher.{Cipher};
+ghost use Rattle.vpn_base.specs.declared.names.Role.TheVariants.{Server, Client};
+ghost use Rattle.key_method2.specs.declared.message.Source.{Source};
+ghost use Rattle.key_method2.specs.Messages.{server_km2, server_message, client_km2, client_message};
 ghost use Rattle.key_method2.specs.Spelling.{role_of, field_of, message_bytes};
 
 use crate::message::{Km2, Source};
@@ -71,3 +75,34 @@ pub fn write_km2(alloc: Global, message: &Km2) -> Result<Bytes, NoMemory>
 {
     Ok(Bytes::of(spelled(alloc, message)?))
 }
+
+// Writes a part of a message behind those before it.
+fn write_part(out: &mut [u8; 93], at: usize, part: &[u8])
+    requires { at + length part.now ≤ 93 }
+    ensures { take (at + length part.now) out.new ≡ take at out.old ++ part.now }
+{
+    out[at..at + part.len()].copy_from_slice(part);
+}
+
+/// The server's key exchange message of this key source, of which it sends the two randoms: with the options
+/// `V4,dev-type tun`, and no user name, password or peer info. It is what `write_km2` writes of that message, and
+/// takes no memory.
+pub fn server_message(source: &Source) -> [u8; 93]
+    ensures spelled { result ≡ server_message source.now }
+    ensures is_message { HasAllTexts Server result (server_km2 source.now) }
+{
+    let mut out = [0; 93];
+    write_part(&mut out, 0, &[0, 0, 0, 0, 2]);
+    write_part(&mut out, 5, &source.random1);
+    write_part(&mut out, 37, &source.random2);
+    write_part(&mut out, 69, b"\x00\x10V4,dev-type tun\x00");
+    write_part(&mut out, 87, &[0; 6]);
+    out
+}
+
+/// What `client_message` of the definitions spells is a message of a client, which `read_km2` reads, with any
+/// key source of a client and up to 5,000 ciphers.
+pub fn client_message_is_read()
+    ensures { (source : Source) (ciphers : List Cipher) → IsSource Client source → length ciphers ≤ 5000
+        → HasAllTexts Client (client_message source ciphers) (client_km2 source ciphers) }
+{}

@@ -1,7 +1,5 @@
 -- What the functions that read return, beside reading on lists.
 use Rattle.std.specs.Prelude.{◌≡◌, ℕ, ◌≤◌, Result, Ok, Err}
-use Rattle.key_method2.specs.declared.message.Km2.{Km2}
-use Rattle.key_method2.specs.declared.reading.Parts.{Parts}
 use Rattle.key_method2.specs.declared.stop.Stop.{Stop}
 use Rattle.key_method2.specs.declared.stop.Stop.TheVariants.{Cut, Wrong}
 
@@ -19,7 +17,3 @@ StopsBy limit (Wrong place) = place ≤ limit
 abbrev pub EndsBy : {X : Type 0} → ℕ → Result (X × ℕ) Stop → Type 0
 EndsBy limit (Ok x) = x.1 ≤ limit
 EndsBy limit (Err stop) = StopsBy limit stop
-
--- a message without where its texts lie
-abbrev pub view : Parts → Km2
-view parts = record { source = parts.source; options = parts.options.now; user = parts.user.now; pass = parts.pass.now; info = parts.info.now }
