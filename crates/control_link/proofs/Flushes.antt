@@ -10,7 +10,7 @@ use Rattle.control_link.specs.declared.envelope.Envelope.{Envelope}
 use Rattle.control_link.specs.declared.sending.Route.{Route}
 use Rattle.control_link.specs.Envelope.{EnvelopeHistory, EnvelopeStands, with_used}
 use Rattle.control_link.specs.Messages.{Flush, ack_message, behind, datagram, flushed, piece_message, send_ack, send_pieces, sent_none}
-use Rattle.control_link.specs.Sending.{Sent, SentOne, head_in}
+use Rattle.control_link.specs.internal.Sending.{Sent, SentOne, head_in}
 
 -- a list that has a first item
 pub record IsBegunBy (p : Numbered) (ps : List Numbered) : Type 0 where

@@ -5,4 +5,6 @@ pub mod Leaving
 pub mod Reading
 pub mod Fronts
 pub mod RunLaws
+pub mod TextLaws
 pub mod RunTexts
+pub mod WrapLaws

@@ -1,7 +1,7 @@
 -- Once the first pending piece was sent, the others are pending.
 use Rattle.std.proofs.Common.{◌≡◌, ℕ, ◌≤◌, Bool, true, false, List, ◌∷◌}
 use Rattle.reliable_send.specs.Sending.{Sending, Numbered, due, ready, sent}
-use Rattle.control_link.specs.Sending.{pending}
+use Rattle.control_link.specs.internal.Sending.{pending}
 
 pub pending_rest : (again : Bool) (s : Sending) (p : Numbered) (rest : List Numbered) (now : ℕ)
     → ((h : Sending) (q : Numbered) (others : List Numbered) (m : ℕ) → ready h ≡ q ∷ others → ready (sent h q.0 m) ≡ others)

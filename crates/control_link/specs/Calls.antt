@@ -143,7 +143,7 @@ Told (Ok a) end = end ≡ None
 Told (Err Memory) end = Unit {0}
 Told (Err (Why e)) end = end ≡ Some e
 
--- the same, where an Ok tells what came of a packet
+-- the same as `Told`, where an Ok tells what came of a packet
 abbrev pub TellsGot : Result Got (Or LinkEnd) → Got → Option LinkEnd → Type 0
 TellsGot (Ok g) wanted end = (g ≡ wanted) × (end ≡ None)
 TellsGot (Err Memory) wanted end = Unit {0}

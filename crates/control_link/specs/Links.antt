@@ -1,7 +1,6 @@
 -- One key session's control link: everything that was sent and taken on it.
-use Rattle.std.specs.Prelude.{◌≡◌, ℕ, zero, suc, ◌<◌, Bool, false, List, [], ◌∷◌, ◌++◌, map, unwrap_or}
+use Rattle.std.specs.Prelude.{◌≡◌, ℕ, Bool, false, List, map}
 use Rattle.vpn_base.specs.declared.names.Conn.{Conn}
-use Rattle.vpn_links.specs.Texts.{ControlTexts}
 use Rattle.opcode_codec.specs.declared.opcodes.Opcode.{Opcode}
 use Rattle.opcode_codec.specs.declared.opcodes.Opcode.TheVariants.{SoftReset, ClientReset, ServerReset}
 use Rattle.reliable_send.specs.Sending.{Offered, Sending, begun}
@@ -22,13 +21,13 @@ pub record Link : Type 0 where
 abbrev pub link_begun : Conn → ℕ → Opcode → ℕ → Link
 link_begun conn kid first timeout = record { conn = conn; kid = kid; first = first; sending = begun timeout; receiving = recv.begun; spent = false }
 
--- what is kept of a link
+-- what is kept of a link, and in its sides how much more there is room for
 pub record KeptLink : Type 0 where
   pub conn : Conn
   pub kid : ℕ
   pub first : Opcode
   pub sending : Side
-  pub receiving : recv.Receiving
+  pub receiving : recv_sides.Side
   pub spent : Bool
 
 -- an opcode that begins a key session
@@ -37,12 +36,6 @@ IsReset SoftReset = Unit {0}
 IsReset ClientReset = Unit {0}
 IsReset ServerReset = Unit {0}
 IsReset _ = ⊥
-
--- what holds of every link: no acknowledgement waits between two calls
-pub record IsSound (kid : ℕ) (first : Opcode) (waiting : List ℕ) : Type 0 where
-  pub kid_fits : kid < 8
-  pub reset : IsReset first
-  pub acknowledged : waiting ≡ []
 
 -- both sides stand for what was sent and taken
 pub record IsLinkOf (k : KeptLink) (l : Link) : Type 0 where
@@ -57,21 +50,26 @@ pub record IsLinkOf (k : KeptLink) (l : Link) : Type 0 where
 unfoldable pub LinkStands : KeptLink → Link → Type 0
 LinkStands k l = IsLinkOf k l
 
--- the payloads of the ids below this one, in order
-abbrev pub payloads_below : ℕ → List recv.Arrival → List (List ℕ)
-payloads_below zero taken = []
-payloads_below (suc n) taken = payloads_below n taken ++ unwrap_or (recv.payload_of taken n) [] ∷ []
+-- the payloads of a link that were read, in order, that of packet 0 included
+abbrev pub read_of : Link → List (List ℕ)
+read_of l = recv.in_order l.receiving.read l.receiving.taken 0
 
--- the control texts of a link
-abbrev pub texts_of : Link → ControlTexts
-texts_of l = record {
-  conn = l.conn;
-  read = payloads_below l.receiving.read l.receiving.taken;
-  written = map (λ (p : Offered). p.bytes) l.sending.pieces;
-}
+-- the pieces that were offered on it, piece 0 included
+abbrev pub written_of : Link → List (List ℕ)
+written_of l = map (λ (p : Offered). p.bytes) l.sending.pieces
 
--- the texts are those of a history for which the link stands
-pub record Writes (k : KeptLink) (t : ControlTexts) : Type 0 where
-  pub link : Link
-  pub stands : LinkStands k link
-  pub texts : t ≡ texts_of link
+-- ---- a link that is to come
+
+-- the sides of a blank link
+pub record Blank : Type 0 where
+  pub sending : Side
+  pub receiving : recv_sides.Side
+
+-- they stand for nothing sent or taken, with so many seconds from the first sending of a piece to the next
+pub record IsBlankOf (b : Blank) (timeout : ℕ) : Type 0 where
+  pub sending : Stands b.sending (begun timeout)
+  pub receiving : recv_sides.Stands b.receiving recv.begun
+
+-- the same as one word, which callers do not look into
+unfoldable pub BlankStands : Blank → ℕ → Type 0
+BlankStands b timeout = IsBlankOf b timeout

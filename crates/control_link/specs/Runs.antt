@@ -1,23 +1,21 @@
 -- Whole runs of a control link: events one after the other, and what is read after each.
-use Rattle.std.specs.Prelude.{◌≡◌, ℕ, zero, suc, List, [], ◌∷◌, ◌++◌, length, Option, Some, None, Result, Ok, Err}
+use Rattle.std.specs.Prelude.{ℕ, List, [], ◌∷◌, ◌++◌, Option, Some, None, Result, Ok, Err}
 use Rattle.std.specs.Option.{option_or}
 use Rattle.std.specs.List.{concat, filter_map}
-use Rattle.vpn_base.specs.declared.address.Addr.{Addr}
 use Rattle.vpn_base.specs.declared.names.Malformed.{Malformed}
 use Rattle.vpn_base.specs.declared.names.Moment.{Moment}
 use Rattle.vpn_base.specs.declared.names.Sid.{Sid}
-use Rattle.vpn_links.specs.Actions.{Contents, Holds}
 use Rattle.opcode_codec.specs.ControlText.{ControlForm, control_of}
 use Rattle.reliable_recv.specs.Receiving.{Arrival}
 use Rattle.tls_crypt.specs.Packets.{Wrapping}
-use Rattle.control_link.specs.declared.envelope.Envelope.{Envelope}
 use Rattle.control_link.specs.declared.link.LinkEnd.{LinkEnd}
 use Rattle.control_link.specs.declared.runs.LinkEvent.{LinkEvent}
 use Rattle.control_link.specs.declared.runs.LinkSetup.{LinkSetup}
 use Rattle.control_link.specs.declared.runs.LinkEvent.TheVariants.{Say, Packet, Tick}
-use Rattle.control_link.specs.Envelope.{EnvelopeHistory, EnvelopeStands, envelope_begun}
-use Rattle.control_link.specs.Links.{KeptLink, Link, LinkStands, link_begun}
-use Rattle.control_link.specs.Calls.{Outcome, after_text, datagrams_to, next_text, received, said, ticked, unchanged}
+use Rattle.control_link.specs.Envelope.{EnvelopeHistory, envelope_begun}
+use Rattle.control_link.specs.Links.{Link, link_begun}
+use Rattle.control_link.specs.Calls.{Outcome, received, said, ticked, unchanged}
+use Rattle.control_link.specs.Reading.{read_here, texts_here}
 
 -- an event, and its moment
 abbrev pub EventAt : Type 0
@@ -36,28 +34,6 @@ event_comes l h (Say bytes) remote now = said l h bytes remote now
 event_comes l h (Packet op plain) remote now = packet_comes l h (control_of op plain) remote now
 event_comes l h Tick remote now = ticked l h remote now
 
--- ---- reading
-
--- a payload of the text, if it is here, and those behind it
-abbrev pub texts_with : Option (List ℕ) → List (List ℕ) → List (List ℕ)
-texts_with None rest = []
-texts_with (Some payload) rest = payload ∷ rest
-
--- the payloads of the text that are here, in order; no more than so many
-unfoldable pub texts_here : ℕ → Link → List (List ℕ)
-texts_here zero l = []
-texts_here (suc most) l = texts_with (next_text l) (texts_here most (after_text l))
-
--- the link once the next payload was looked for, or once those behind it were read
-abbrev pub read_with : Option (List ℕ) → Link → Link → Link
-read_with None l rest = l
-read_with (Some payload) l rest = rest
-
--- the link after they were read
-unfoldable pub read_here : ℕ → Link → Link
-read_here zero l = l
-read_here (suc most) l = read_with (next_text l) (after_text l) (read_here most (after_text l))
-
 -- ---- runs
 
 -- how far a run has come: the link and the envelope, the control datagrams that were staged and the text that was read so far, and the first end, if there was one
@@ -72,29 +48,29 @@ pub record Course : Type 0 where
 abbrev pub course_begun : Link → EnvelopeHistory → Course
 course_begun l h = record { link = l; envelope = h; datagrams = []; text = []; end = None }
 
--- after what came of an event, and after the payloads of the text were read that are here, no more than so many
-abbrev pub course_after : ℕ → Course → Outcome → Course
-course_after most c o = record {
-  link = read_here most o.link;
+-- after what came of an event, and after the payloads of the text were read that are here: there are no more than 12
+abbrev pub course_after : Course → Outcome → Course
+course_after c o = record {
+  link = read_here 12 o.link;
   envelope = o.envelope;
   datagrams = c.datagrams ++ o.datagrams;
-  text = c.text ++ concat (texts_here most o.link);
+  text = c.text ++ concat (texts_here 12 o.link);
   end = option_or c.end o.end;
 }
 
 -- after one event
-unfoldable pub after_event : ℕ → Sid → Course → EventAt → Course
-after_event most remote c e = course_after most c (event_comes c.link c.envelope e.0 remote e.1.0)
+unfoldable pub after_event : Sid → Course → EventAt → Course
+after_event remote c e = course_after c (event_comes c.link c.envelope e.0 remote e.1.0)
 
 -- after all of these events
-abbrev pub after_events : ℕ → Sid → Course → List EventAt → Course
-after_events most remote c [] = c
-after_events most remote c (e ∷ events) = after_events most remote (after_event most remote c e) events
+abbrev pub after_events : Sid → Course → List EventAt → Course
+after_events remote c [] = c
+after_events remote c (e ∷ events) = after_events remote (after_event remote c e) events
 
--- the course of these events over a fresh link and envelope, where after each event every payload of the text is read that is here: there are no more than events
+-- the course of these events over a fresh link and envelope, where after each event every payload of the text is read that is here
 unfoldable pub course_of : Wrapping → LinkSetup → List EventAt → Course
 course_of wraps setup events =
-    after_events (length events) setup.remote
+    after_events setup.remote
     (course_begun (link_begun setup.conn setup.kid setup.first setup.timeout_secs) (envelope_begun wraps setup.own setup.time 1 0)) events
 
 -- the id and the payload of a packet that has an id
@@ -116,10 +92,3 @@ brought Tick = None
 -- the packets with a packet id that come in a run, in order
 abbrev pub arrivals_in : List EventAt → List Arrival
 arrivals_in events = filter_map (λ (e : EventAt). brought e.0) events
-
--- link, envelope, outbox and text are as the course says
-pub record IsAt {W : Type 0} (wrapped : W → Wrapping) (k : KeptLink) (env : Envelope W) (out : Contents) (bytes : List ℕ) (to : Addr) (c : Course) : Type 0 where
-  pub link : LinkStands k c.link
-  pub envelope : EnvelopeStands wrapped env c.envelope
-  pub outbox : Holds out [] (datagrams_to to c.datagrams)
-  pub text : bytes ≡ c.text

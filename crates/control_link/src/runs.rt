@@ -6,16 +6,21 @@ ghost use Rattle.reliable_recv.specs.Receiving.{text_of};
 ghost use Rattle.control_link.specs.Envelope.{EnvelopeHistory, EnvelopeStands, envelope_begun};
 ghost use Rattle.control_link.specs.Links.{IsReset, Link, LinkStands, link_begun};
 ghost use Rattle.control_link.specs.Calls.{Left, Told, datagrams_to};
-ghost use Rattle.control_link.specs.Runs.{Course, IsAt, after_event, arrivals_in, course_of, event_comes, read_here, texts_here};
+ghost use Rattle.control_link.specs.Reading.{read_here, texts_here};
+ghost use Rattle.control_link.specs.Runs.{Course, after_event, arrivals_in, course_of, event_comes};
+ghost use Rattle.control_link.specs.internal.Courses.{IsAt};
 
 use crate::envelope::Envelope;
+use crate::laws::reads_what_is_given;
 use crate::link::{ControlLink, LinkEnd};
 use opcode_codec::{Opcode, read_control};
-use reliable_recv::{reads_in_order, reads_packets};
 use std::alloc::Global;
 use tls_crypt::Wrap;
 use vpn_base::{Addr, Bytes, Conn, Moment, NoMemory, Or, Sid};
 use vpn_links::Outbox;
+
+// No more payloads than so many are here at once: what a receiving side takes lies less than 12 ahead.
+const MOST_HERE: usize = 12;
 
 /// What comes to a link, in a run.
 #[derive(Debug, Drop)]
@@ -125,7 +130,7 @@ fn take_event<W: Wrap + Drop>(
     }
 }
 
-// One event comes, and then every payload of the text is read that is here, no more than so many.
+// One event comes, and then every payload of the text is read that is here.
 #[tactic(auto, unfolding(crate::specs::Runs::after_event))]
 fn step<W: Wrap + Drop>(
     link: &mut ControlLink,
@@ -133,22 +138,21 @@ fn step<W: Wrap + Drop>(
     setup: &LinkSetup,
     event: &LinkEvent,
     now: Moment,
-    most: usize,
     out: &mut Outbox,
     text: &mut Vec<u8>,
 ) -> Result<(), Or<LinkEnd>>
     requires open { link.old.spent ≡ false }
     ensures at { OnOk result ((c : Course) → IsAt W.wrapped link.old env.old out.old text.old.items setup.now.to c →
-        IsAt W.wrapped link.new env.new out.new text.new.items setup.now.to (after_event most setup.now.remote c (event.now, now))) }
+        IsAt W.wrapped link.new env.new out.new text.new.items setup.now.to (after_event setup.now.remote c (event.now, now))) }
     ensures ended { (c : Course) → IsAt W.wrapped link.old env.old out.old text.old.items setup.now.to c → c.end ≡ None →
-        Told result (after_event most setup.now.remote c (event.now, now)).end }
+        Told result (after_event setup.now.remote c (event.now, now)).end }
     ensures open { OnOk result (link.new.spent ≡ false) }
 {
     match take_event(link, env, setup, event, now, out) {
         Ok(()) => {}
         Err(fault) => return Err(fault),
     }
-    match read_texts(most, link, text) {
+    match read_texts(MOST_HERE, link, text) {
         Ok(()) => Ok(()),
         Err(NoMemory) => Err(Or::Memory),
     }
@@ -172,8 +176,7 @@ pub fn run_link<W: Wrap + Drop>(
     ensures text { IfOk result (λ r. r.text ≡ text_of (arrivals_in events.now)) }
     ensures ended { Told result (course_of (W.wrapped wrap) setup.now events.now).end }
 {
-    reads_in_order();
-    reads_packets();
+    reads_what_is_given();
     let mut link = match ControlLink::new(
         alloc,
         setup.conn,
@@ -193,7 +196,6 @@ pub fn run_link<W: Wrap + Drop>(
         Err(NoMemory) => return Err(Or::Memory),
     };
     let mut text = Vec::new(alloc);
-    let most = events.len();
     for (event, now) in events {
         match step(
             &mut link,
@@ -201,7 +203,6 @@ pub fn run_link<W: Wrap + Drop>(
             setup,
             event,
             *now,
-            most,
             &mut outbox,
             &mut text,
         ) {

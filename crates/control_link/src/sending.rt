@@ -10,7 +10,7 @@ ghost use Rattle.control_link.specs.Envelope.{EnvelopeHistory, EnvelopeStands, w
 ghost use Rattle.control_link.specs.Messages.{Flush, Message, datagram, ack_message, piece_message, flushed, send_ack, send_pieces};
 ghost use Rattle.vpn_base.specs.Acks.{acked};
 ghost use Rattle.control_link.specs.Links.{IsReset};
-ghost use Rattle.control_link.specs.Sending.{Sent, SentOne, head_in, pending};
+ghost use Rattle.control_link.specs.internal.Sending.{Sent, SentOne, head_in, pending};
 
 use crate::envelope::Envelope;
 use opcode_codec::{Opcode, first_byte, write_control};
@@ -131,6 +131,7 @@ fn stage_ack<W: Wrap + Drop>(
     requires bytes { 1200 ≤ out.old.spare_bytes }
     ensures sent { (h : EnvelopeHistory) → EnvelopeStands W.wrapped env.old h →
         SentOne W.wrapped env.new out.old out.new route.now h (ack_message (head_in route.now) (acked acks.now)) result }
+    ensures spare { (out.old.spare_effects ≤ out.new.spare_effects + 1) × (out.old.spare_bytes ≤ out.new.spare_bytes + 1200) }
 {
     prove!(acked_ids(acks).len() <= 8);
     stage_one(env, route, Opcode::Ack, acks, 0, &[], out)
@@ -163,7 +164,8 @@ fn next_pending(side: &SendSide, again: bool, now: Moment) -> Option<Piece<'_>>
 
 // Counts it as sent.
 fn count_sent(side: &mut SendSide, again: bool, id: u32, now: Moment)
-    ensures { (s : Sending) → Stands side.old s → first_id (pending again s now.0) ≡ Some id → Stands side.new (sent s id now.0) }
+    ensures stands { (s : Sending) → Stands side.old s → first_id (pending again s now.0) ≡ Some id → Stands side.new (sent s id now.0) }
+    ensures side { side.old.spare ≤ side.new.spare }
 {
     side.count_sent(id, now);
 }
@@ -194,9 +196,11 @@ fn send_pending<W: Wrap + Drop>(
     requires acks { acks.now.count ≤ 8 }
     requires effects { left ≤ out.old.spare_effects }
     requires bytes { 1200 * left ≤ out.old.spare_bytes }
-    ensures { (s : Sending) → (h : EnvelopeHistory) → Stands side.old s → EnvelopeStands W.wrapped env.old h →
+    ensures sent { (s : Sending) → (h : EnvelopeHistory) → Stands side.old s → EnvelopeStands W.wrapped env.old h →
         length (pending again s now.0) ≡ left →
         Sent W.wrapped side.new env.new out.old out.new route.now (send_pieces (head_in route.now) (acked acks.now) now.0 (pending again s now.0) s h) result }
+    ensures spare { (out.old.spare_effects ≤ out.new.spare_effects + left) × (out.old.spare_bytes ≤ out.new.spare_bytes + 1200 * left) }
+    ensures side { side.old.spare ≤ side.new.spare }
 {
     pending_shrinks();
     if left == 0 {
@@ -232,8 +236,10 @@ pub(crate) fn flush<W: Wrap + Drop>(
     requires acks { acks.now.count ≤ 8 }
     requires effects { 6 ≤ out.old.spare_effects }
     requires bytes { 7200 ≤ out.old.spare_bytes }
-    ensures { (s : Sending) → (h : EnvelopeHistory) → Stands side.old s → EnvelopeStands W.wrapped env.old h →
+    ensures sent { (s : Sending) → (h : EnvelopeHistory) → Stands side.old s → EnvelopeStands W.wrapped env.old h →
         Sent W.wrapped side.new env.new out.old out.new route.now (flushed (head_in route.now) (acked acks.now) now.0 (pending again s now.0) s h) result }
+    ensures spare { (out.old.spare_effects ≤ out.new.spare_effects + 6) × (out.old.spare_bytes ≤ out.new.spare_bytes + 7200) }
+    ensures side { side.old.spare ≤ side.new.spare }
 {
     let left = count_pending(side, again, now);
     if left > 0 {

@@ -116,10 +116,11 @@ fn read(rt: &impl Abort, pieces: [&[u8]; 4]) -> Result<StaticKey, KeyFault> {
     let mut text = [0u8; 2048];
     let mut len = 0usize;
     for piece in &pieces {
-        assert!(rt; piece.len() <= 2048 - len);
+        assert!(rt; piece.len() <= 1024 && len <= 1024);
         text[len..len + piece.len()].copy_from_slice(piece);
         len += piece.len();
     }
+    assert!(rt; len <= 2048);
     read_static_key(&text[..len])
 }
 

@@ -4,7 +4,7 @@ use crate::notes::Note;
 use vpn_base::{Addr, Cid, Conn, Ip4, Role, RouteList, TextList};
 
 /// One effect of a step, whose bytes lie in the outbox that lends it.
-#[derive(Clone, Copy, Debug)]
+#[derive(Clone, Copy)]
 pub enum Effect<'a> {
     /// A datagram goes to an address.
     Wire {

@@ -6,7 +6,7 @@ use std::alloc::Global;
 use vpn_base::{Addr, Bytes, Cid, Conn, Draw, Moment, NoMemory, Text};
 
 /// One event, with its moment and the random bytes that it brings.
-#[derive(Debug, Drop)]
+#[derive(Drop)]
 pub struct Event {
     /// When it came, in milliseconds.
     pub now: Moment,
@@ -31,7 +31,7 @@ impl Event {
 }
 
 /// What is answered to a question for a client's file.
-#[derive(Debug, Drop)]
+#[derive(Drop)]
 pub enum FileAnswer {
     /// The text of the file.
     Held(Bytes),
@@ -54,7 +54,7 @@ impl FileAnswer {
 }
 
 /// What an event is.
-#[derive(Debug, Drop)]
+#[derive(Drop)]
 pub enum Kind {
     /// A datagram of the line.
     Datagram {

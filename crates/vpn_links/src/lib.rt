@@ -17,6 +17,7 @@ pub use effects::Effect;
 pub use events::{Event, FileAnswer, Kind};
 pub use links::{LinkFault, Links, Plan};
 pub use machine::Machine;
+pub use mem_links::MemLinks;
 pub use notes::Note;
 pub use outbox::Outbox;
 

@@ -20,7 +20,7 @@ const BYTES: usize = 4096;
 /// The effects of a step in order, and the control datagrams that are to stand behind them. Contracts see
 /// both as lists, and beside them for how many more effects or datagrams and for how many more bytes there
 /// is room.
-#[derive(Debug, Drop)]
+#[derive(Drop)]
 pub struct Outbox {
     effects: Vec<Kept>,
     staged: Vec<Staged>,

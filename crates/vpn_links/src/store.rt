@@ -4,14 +4,14 @@ use crate::notes::Note;
 use vpn_base::{Addr, Cid, Conn, Ip4, Role, RouteList, TextList};
 
 // Where bytes lie in the store of an outbox.
-#[derive(Clone, Copy, Debug)]
+#[derive(Clone, Copy)]
 pub(crate) struct Span {
     pub(crate) start: usize,
     pub(crate) len: usize,
 }
 
 // A configuration of the packet device.
-#[derive(Debug, Drop)]
+#[derive(Drop)]
 pub(crate) struct Setup {
     pub(crate) address: Ip4,
     pub(crate) len: u8,
@@ -21,7 +21,7 @@ pub(crate) struct Setup {
 }
 
 // An effect, with the place of its bytes.
-#[derive(Debug, Drop)]
+#[derive(Drop)]
 pub(crate) enum Kept {
     Wire { to: Addr, span: Span },
     EngineOpen { conn: Conn, role: Role },
@@ -37,7 +37,7 @@ pub(crate) enum Kept {
 }
 
 // A control datagram, with the place of its bytes.
-#[derive(Clone, Copy, Debug)]
+#[derive(Clone, Copy)]
 pub(crate) struct Staged {
     pub(crate) to: Addr,
     pub(crate) span: Span,

@@ -1,16 +1,20 @@
-//! An outbox that is filled, cut and settled.
+//! An outbox that is filled and settled, links in memory that fail where they are told, and the least core.
+
+ghost use Rattle.std.specs.Prelude.{[], ◌∷◌};
+ghost use Rattle.vpn_links.specs.Actions.{Stop};
 
 use super::*;
+use std::alloc::Global;
 use std::test::Fail;
-use vpn_base::{Addr, Cid, Conn, Ip4, Prefix, Role, RouteList, Text, TextList};
+use vpn_base::{Addr, Bytes, Draw, Ip4, Moment, NoMemory, Or, Role, RouteList, Text, TextList};
 
 const PEER: Addr = Addr {
     ip: Ip4(0xC000_0207),
     port: 40_000,
 };
 
-fn is_wire(outbox: &Outbox, i: usize, wanted: &[u8]) -> bool {
-    match outbox.effect(i) {
+fn is_wire(effect: Option<Effect<'_>>, wanted: &[u8]) -> bool {
+    match effect {
         Some(Effect::Wire { to, bytes }) => to == PEER && bytes == wanted,
         _ => false,
     }
@@ -18,124 +22,105 @@ fn is_wire(outbox: &Outbox, i: usize, wanted: &[u8]) -> bool {
 
 #[test]
 fn datagrams_stand_behind_the_effects(rt: HostRuntime) -> Result<(), Fail> {
-    let mut outbox = Outbox::make(rt.alloc())?;
-    assert_eq!(rt; outbox.count(), 0);
-    outbox.stage(PEER, b"first")?;
-    outbox.add(&Effect::EngineOpen {
-        conn: Conn(7),
-        role: Role::Server,
-    })?;
-    outbox.stage(PEER, b"second")?;
+    let alloc = rt.alloc();
+    let mut outbox = Outbox::make(alloc)?;
+    outbox.stage(PEER, b"datagram")?;
     outbox.add(&Effect::Say { bytes: b"hello" })?;
-    outbox.add(&Effect::Report(Note::NoRoute))?;
-    assert_eq!(rt; outbox.staged(), 2);
-    assert_eq!(rt; outbox.count(), 3);
-    outbox.cut(2, 2);
-    outbox.settle();
-    assert_eq!(rt; outbox.staged(), 0);
-    assert_eq!(rt; outbox.count(), 4);
-    assert!(rt;
-        matches!(
-            outbox.effect(0),
-            Some(Effect::EngineOpen {
-                conn: Conn(7),
-                role: Role::Server
-            })
-        )
+    outbox.reserve(1, 0)?;
+    outbox.add_configure(
+        Ip4(0x0A08_0002),
+        24,
+        None,
+        RouteList::new(alloc),
+        TextList::new(alloc),
     );
-    assert!(rt; matches!(outbox.effect(1), Some(Effect::Say { bytes: b"hello" })));
-    assert!(rt; is_wire(&outbox, 2, b"first"));
-    assert!(rt; is_wire(&outbox, 3, b"second"));
-    assert!(rt; outbox.effect(4).is_none());
+    assert_eq!(rt; outbox.staged(), 1);
+    outbox.cut(2, 1);
+    outbox.settle();
+    assert_eq!(rt; outbox.count(), 3);
+    assert!(rt; is_wire(outbox.effect(2), b"datagram"));
     outbox.clear();
     assert_eq!(rt; outbox.count(), 0);
     Ok(())
 }
 
-#[test]
-fn each_effect_is_lent_as_it_was_added(rt: HostRuntime) -> Result<(), Fail> {
-    let alloc = rt.alloc();
-    let conn = Conn(7);
-    let mut outbox = Outbox::make(alloc)?;
-    outbox.add(&Effect::Stop)?;
-    outbox.add(&Effect::Wire {
+fn plan(alloc: Global) -> Result<Plan, NoMemory> {
+    Ok(Plan {
+        role: Role::Server,
+        local: None,
+        port: 1194,
+        remote: None,
+        dev: Text::copy(alloc, b"tun")?,
+        address: None,
+        routes: RouteList::new(alloc),
+        engine: TextList::new(alloc),
+        console: None,
+        ccd: None,
+    })
+}
+
+// A start that the engine fails, one that goes, an event, a datagram that is lost, and an effect.
+fn drive<L: Links>(links: &mut L, plan: &Plan, event: &mut Event) -> bool {
+    let wire = Effect::Wire {
         to: PEER,
-        bytes: b"wire",
+        bytes: b"reply",
+    };
+    matches!(links.start(plan), Err(Or::Why(LinkFault::Engine)))
+        && links.start(plan).is_ok()
+        && links.next(event).is_ok()
+        && matches!(links.give(&wire), Err(Or::Why(LinkFault::Wire)))
+        && links.give(&Effect::Stop).is_ok()
+}
+
+#[test]
+fn links_in_memory_fail_where_they_are_told(rt: HostRuntime) -> Result<(), Fail> {
+    let alloc = rt.alloc();
+    let mut events = Vec::new(alloc);
+    events.push(Event {
+        now: Moment(5),
+        draw: Draw([7; 120]),
+        kind: Kind::Line {
+            bytes: Bytes::copy(alloc, b"status")?,
+        },
     })?;
-    outbox.add(&Effect::EnginePut {
-        conn,
-        bytes: b"put",
-    })?;
-    outbox.add(&Effect::EngineWrite { conn, bytes: b"" })?;
-    outbox.add(&Effect::EngineClose { conn })?;
-    outbox.add(&Effect::Device { bytes: b"device" })?;
-    outbox.add(&Effect::Ask {
-        cid: Cid(3),
-        name: b"alice",
-    })?;
-    let mut routes = RouteList::new(alloc);
-    if let Some(route) = Prefix::new(Ip4(0x0A09_0000), 16) {
-        routes.add(route)?;
-    }
-    let mut rest = TextList::new(alloc);
-    rest.add(Text::copy(alloc, b"dhcp-option DNS 10.8.0.1")?)?;
-    outbox.reserve(1, 0)?;
-    outbox.add_configure(Ip4(0x0A08_0002), 24, None, routes, rest);
-    assert_eq!(rt; outbox.count(), 8);
-    assert!(rt; matches!(outbox.effect(0), Some(Effect::Stop)));
-    assert!(rt; is_wire(&outbox, 1, b"wire"));
-    assert!(rt;
-        matches!(
-            outbox.effect(2),
-            Some(Effect::EnginePut {
-                conn: Conn(7),
-                bytes: b"put"
-            })
-        )
-    );
-    assert!(rt;
-        matches!(
-            outbox.effect(3),
-            Some(Effect::EngineWrite {
-                conn: Conn(7),
-                bytes: b""
-            })
-        )
-    );
-    assert!(rt;
-        matches!(
-            outbox.effect(4),
-            Some(Effect::EngineClose { conn: Conn(7) })
-        )
-    );
-    assert!(rt; matches!(outbox.effect(5), Some(Effect::Device { bytes: b"device" })));
-    assert!(rt;
-        matches!(
-            outbox.effect(6),
-            Some(Effect::Ask {
-                cid: Cid(3),
-                name: b"alice"
-            })
-        )
-    );
-    match outbox.effect(7) {
-        Some(
-            Effect::Configure {
-                address,
-                len,
-                gateway,
-                routes,
-                rest,
-            },
-        ) => {
-            assert_eq!(rt; address, Ip4(0x0A08_0002));
-            assert_eq!(rt; len, 24);
-            assert_eq!(rt; gateway, None);
-            assert_eq!(rt; routes.count(), 1);
-            assert_eq!(rt; rest.count(), 1);
-        }
-        _ => assert!(rt; false, "no configuration"),
-    }
-    assert!(rt; outbox.effect(8).is_none());
+    let mut failing = Vec::new(alloc);
+    failing.push((0, LinkFault::Engine))?;
+    failing.push((2, LinkFault::Wire))?;
+    failing.push((3, LinkFault::Wire))?;
+    let mut links = MemLinks::new(alloc, events, failing)?;
+    let plan = plan(alloc)?;
+    let mut event = Event {
+        now: Moment(0),
+        draw: Draw([0; 120]),
+        kind: Kind::Tick,
+    };
+    assert!(rt; drive(&mut links, &plan, &mut event));
+    assert!(rt; matches!(event.kind, Kind::Line { .. }));
+    assert_eq!(rt; links.events_given(), 1);
+    assert!(rt; matches!(links.effect_given(0, 0), Some((Effect::Wire { .. }, true))));
+    assert!(rt; matches!(links.effect_given(0, 1), Some((Effect::Stop, false))));
+    assert!(rt; links.next(&mut event).is_ok());
+    assert!(rt; matches!(event.kind, Kind::Halt));
+    assert_eq!(rt; event.now, Moment(5));
     Ok(())
+}
+
+// A core that stops at every event.
+struct Stopping;
+
+impl Machine for Stopping {
+    ghost Table = { Unit {0} };
+
+    ghost stands = { λ _ _. Unit {0} };
+
+    ghost next = { λ _ t _. t };
+
+    ghost effects = { λ _ _ _. Stop ∷ [] };
+
+    ghost may_lack = { λ _ _ _. ⊥ };
+
+    fn step(&mut self, event: &Event, out: &mut Outbox) -> Result<(), NoMemory> {
+        let _ = event;
+        out.add(&Effect::Stop)
+    }
 }

@@ -4,7 +4,7 @@ use Rattle.std.proofs.lemmas.List.{append-nil}
 use Rattle.std.proofs.lemmas.Result.{on_ok_weaker}
 use Rattle.control_link.specs.Links.{Link, LinkStands}
 use Rattle.control_link.specs.Calls.{after_text}
-use Rattle.control_link.specs.Runs.{read_here, texts_here}
+use Rattle.control_link.specs.Reading.{read_here, texts_here}
 use Rattle.control_link.proofs.RunLaws.{read_no_more, no_more_texts, none_read, none_texts, one_read, one_text}
 use Rattle.control_link.proofs.runs.+read_texts.Goals as goal
 

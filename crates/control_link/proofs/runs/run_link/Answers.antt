@@ -1,7 +1,8 @@
 use Rattle.std.proofs.Common.{◌≡◌, ◌≤◌, ◌+◌, List, length, sym, ap, subst, ◌∙◌}
 use Rattle.control_link.specs.declared.runs.LinkRun.{LinkRun}
 use Rattle.control_link.specs.Calls.{datagrams_to}
-use Rattle.control_link.specs.Runs.{Course, EventAt, IsAt, after_event, course_of}
+use Rattle.control_link.specs.Runs.{Course, EventAt, after_event, course_of}
+use Rattle.control_link.specs.internal.Courses.{IsAt}
 use Rattle.tls_crypt.specs.Packets.{Wrapping}
 use Rattle.control_link.proofs.RunLaws.{course_at, course_ended, course_next, course_whole, told_still}
 use Rattle.control_link.proofs.RunTexts.{course_text}
@@ -15,7 +16,7 @@ loop-event-preserved g c =
     let wraps : Wrapping = g.W.Wrap.wrapped c.args.wrap in
     let e : EventAt = c.loop-event-item.result in
     let before : Course = course_at i wraps setup events in
-    let next : course_at (i + 1) wraps setup events ≡ after_event (length events) setup.remote before e = course_next i wraps setup events e c.loop-event-test.true c.loop-event-item.is in
+    let next : course_at (i + 1) wraps setup events ≡ after_event setup.remote before e = course_next i wraps setup events e c.loop-event-test.true c.loop-event-item.is in
     record {
       at = subst (λ (course : Course). IsAt g.W.Wrap.wrapped c.step.new.link c.step.new.env c.step.new.out c.step.new.text.items setup.to course) (sym next) (c.in-Ok-step.ensures.at before c.loop-event.invariant.at);
       end = ap (λ (course : Course). course.end) next ∙ c.in-Ok-step.ensures.ended before c.loop-event.invariant.at c.loop-event.invariant.end;
@@ -30,8 +31,8 @@ returns-in-Err-step-clause-ended g c =
     let wraps : Wrapping = g.W.Wrap.wrapped c.args.wrap in
     let e : EventAt = c.loop-event-item.result in
     let before : Course = course_at i wraps setup events in
-    let next : course_at (i + 1) wraps setup events ≡ after_event (length events) setup.remote before e = course_next i wraps setup events e c.loop-event-test.true c.loop-event-item.is in
-    told_still (Unit {0}) LinkRun c.in-Err-step.fault (after_event (length events) setup.remote before e).end (course_of wraps setup events).end
+    let next : course_at (i + 1) wraps setup events ≡ after_event setup.remote before e = course_next i wraps setup events e c.loop-event-test.true c.loop-event-item.is in
+    told_still (Unit {0}) LinkRun c.in-Err-step.fault (after_event setup.remote before e).end (course_of wraps setup events).end
     (λ end is. course_ended (i + 1) wraps setup events end (ap (λ (course : Course). course.end) next ∙ is))
     (c.in-Err-step.ensures.ended before c.loop-event.invariant.at c.loop-event.invariant.end)
 
@@ -48,19 +49,13 @@ returns-clause-text g c =
     ∙ ap (λ (course : Course). course.text) (course_whole c.loop-event.event-index (g.W.Wrap.wrapped c.args.wrap) c.args.setup.now c.args.events.now all)
     ∙ course_text
     (record {
-      goes_on = c.reads_in_order.ensures.goes_on;
-      ends = c.reads_in_order.ensures.ends;
-      full = c.reads_in_order.ensures.full;
-      whole = c.reads_in_order.ensures.whole;
-      text = c.reads_in_order.ensures.text;
-    })
-    (record {
-      first = c.reads_packets.ensures.first;
-      next = c.reads_packets.ensures.next;
-      read = c.reads_packets.ensures.read;
-      before = c.reads_packets.ensures.before;
-      here = c.reads_packets.ensures.here;
-      text = c.reads_packets.ensures.text;
+      begun = c.reads_what_is_given.ensures.begun;
+      none = c.reads_what_is_given.ensures.none;
+      still = c.reads_what_is_given.ensures.still;
+      whole = c.reads_what_is_given.ensures.whole;
+      given = λ l h v remote now up. record { text = c.reads_what_is_given.ensures.given l h v remote now up; taken = c.reads_what_is_given.ensures.taken l h v remote now up; up = c.reads_what_is_given.ensures.again l h v remote now up };
+      said = c.reads_what_is_given.ensures.said;
+      ticked = c.reads_what_is_given.ensures.ticked;
     })
     (g.W.Wrap.wrapped c.args.wrap) c.args.setup.now c.args.events.now
 

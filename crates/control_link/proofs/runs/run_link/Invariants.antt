@@ -1,5 +1,5 @@
 use Rattle.std.proofs.Common.{◌≡◌, false, None}
-use Rattle.control_link.specs.Runs.{IsAt}
+use Rattle.control_link.specs.internal.Courses.{IsAt}
 use Rattle.control_link.proofs.RunLaws.{course_at}
 use Rattle.control_link.proofs.runs.run_link.Given as goal
 

@@ -2,7 +2,7 @@ use Rattle.std.proofs.Common.{◌≡◌, subst}
 use Rattle.vpn_base.specs.Acks.{acked}
 use Rattle.opcode_codec.specs.ControlText.{sent_form}
 use Rattle.control_link.specs.Messages.{Message, piece_message}
-use Rattle.control_link.specs.Sending.{SentOne, head_in}
+use Rattle.control_link.specs.internal.Sending.{SentOne, head_in}
 use Rattle.control_link.proofs.Messages.{first_piece, later_piece}
 use Rattle.control_link.proofs.sending.stage_piece.Goals as goal
 use Rattle.control_link.proofs.sending.stage_piece.Goals.{then-id-eq0, else-id-eq0}

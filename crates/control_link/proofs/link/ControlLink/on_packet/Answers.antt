@@ -1,71 +1,77 @@
-use Rattle.std.proofs.Common.{ℕ, List, true, Ok, Err, ap, subst, sym, ◌∙◌, refl}
+use Rattle.std.proofs.Common.{ap, arith, subst, sym, ◌∙◌}
 use Rattle.vpn_base.specs.declared.names.Sid.{Sid}
 use Rattle.vpn_base.specs.Acks.{acked}
 use Rattle.opcode_codec.specs.ControlText.{control_form}
-use Rattle.reliable_send.specs.Sending.{ready}
 use Rattle.reliable_send.specs.Sides.{Stands}
-use Rattle.reliable_recv.specs.Receiving.{acks_of, after_acks}
-use Rattle.control_link.specs.Messages.{flushed}
-use Rattle.control_link.specs.Sending.{Sent, head_in}
+use Rattle.control_link.specs.Envelope.{EnvelopeHistory, EnvelopeStands}
 use Rattle.control_link.specs.Links.{KeptLink, Link, LinkStands}
-use Rattle.control_link.specs.Calls.{put_if, received, sending_after, started_by, all_acked, counted_ids}
-use Rattle.control_link.proofs.Leaving.{end_by_flush, left_by_flush, sides_of}
+use Rattle.control_link.specs.Calls.{Left, Outcome, all_acked, counted_ids, put_if, started_by, with_ready}
+use Rattle.control_link.proofs.Leaving.{left_from, put_link, put_stands, received_goes, sides_of}
 use Rattle.control_link.proofs.link.ControlLink.on_packet.Goals as goal
+use Rattle.control_link.proofs.link.ControlLink.on_packet.Goals.{In-Ok-send_all, In-Err-send_all}
 
-pub returns-in-Ok-flush-clause-left : goal.returns-in-Ok-flush-clause-left
-unfolding received
-returns-in-Ok-flush-clause-left g c = λ l h stands seals.
-    let sides = sides_of _ l (subst (λ (k : KeptLink). LinkStands k l) (sym c.self.view_is) stands) in
+-- the link stands for the one with the packet before everything is sent
+stands_ok : (g : _) (c : In-Ok-send_all g) (l : Link) (h : EnvelopeHistory) → LinkStands c.args.self.now l → EnvelopeStands g.W.Wrap.wrapped c.args.env.now h →
+    LinkStands (record { conn = c.self.inside.conn; kid = c.self.inside.kid; first = c.self.inside.first; sending = c.start_if_first.new.side; receiving = c.take_acks-acks.new.self; spent = c.self.inside.spent }) (put_link l h.own (control_form c.args.v.now))
+stands_ok g c l h stands seals =
+    let before = subst (λ (k : KeptLink). LinkStands k l) (sym c.self.view_is) stands in
+    let sides = sides_of _ l before in
     let v = c.args.v.now in
-    let put = c.in-Ok-put_packet.ensures.ok l.receiving sides.receiving in
-    let r1 = put_if l.receiving v.id v.payload.now in
-    let s1 = sending_after l.sending h.own (control_form v) in
-    let sending = subst (λ (own : Sid). Stands c.start_if_first.new.side (started_by v.id (all_acked (counted_ids own v.remote (acked v.acks)) l.sending))) (c.own.ensures h seals) (c.start_if_first.ensures _ (c.count_acks.ensures l.sending sides.sending)) in
-    let l1 : Link = record l { sending = s1; receiving = after_acks r1 8 } in
-    let sent_so = subst (λ (ids : List ℕ). Sent g.W.Wrap.wrapped c.flush.new.side c.flush.new.env c.reserve.new.self c.flush.new.out (record { kid = c.self.inside.kid; first = c.self.inside.first; remote = c.args.remote; to = c.args.to }) (flushed (head_in (record { kid = c.self.inside.kid; first = c.self.inside.first; remote = c.args.remote; to = c.args.to })) ids c.args.now.0 (ready s1) s1 h) (Ok c.in-Ok-flush.field-0)) (c.take_acks-acks.ensures.exact r1 put) (c.in-Ok-flush.ensures s1 h sending seals) in
-    left_by_flush g.W.Wrap.wrapped (record { conn = c.self.inside.conn; kid = c.self.inside.kid; first = c.self.inside.first; sending = c.flush.new.side; receiving = c.take_acks-acks.new.self; spent = c.self.inside.spent }) c.flush.new.env c.args.out.now c.reserve.new.self c.flush.new.out (record { kid = c.self.inside.kid; first = c.self.inside.first; remote = c.args.remote; to = c.args.to }) l1 (acks_of r1 8) c.args.now.0 (ready s1) s1 h (Ok c.in-Ok-flush.field-0)
-    sides.conn sides.kid sides.first sides.kid sides.first (c.take_acks-acks.ensures.stands r1 put) (ap (λ (k : KeptLink). k.spent) c.self.view_is ∙ c.requires.open) c.reserve.ensures.same sent_so
+    put_stands _ l h.own (control_form v) c.start_if_first.new.side c.take_acks-acks.new.self before
+    (subst (λ (own : Sid). Stands c.start_if_first.new.side (started_by v.id (all_acked (counted_ids own v.remote (acked v.acks)) l.sending))) (c.own.ensures h seals) (c.start_if_first.ensures.stands _ (c.count_acks.ensures.stands l.sending sides.sending)))
+    (c.take_acks-acks.ensures.stands (put_if l.receiving v.id v.payload.now) (c.in-Ok-put_packet.ensures.ok l.receiving sides.receiving))
 
-pub returns-in-Ok-flush-clause-answer : goal.returns-in-Ok-flush-clause-answer
-unfolding received
-returns-in-Ok-flush-clause-answer g c = λ l h stands seals.
-    let sides = sides_of _ l (subst (λ (k : KeptLink). LinkStands k l) (sym c.self.view_is) stands) in
+pub returns-in-Ok-send_all-clause-left : goal.returns-in-Ok-send_all-clause-left
+returns-in-Ok-send_all-clause-left g c = λ l h stands seals.
     let v = c.args.v.now in
-    let put = c.in-Ok-put_packet.ensures.ok l.receiving sides.receiving in
-    let r1 = put_if l.receiving v.id v.payload.now in
-    let s1 = sending_after l.sending h.own (control_form v) in
-    let sending = subst (λ (own : Sid). Stands c.start_if_first.new.side (started_by v.id (all_acked (counted_ids own v.remote (acked v.acks)) l.sending))) (c.own.ensures h seals) (c.start_if_first.ensures _ (c.count_acks.ensures l.sending sides.sending)) in
-    let l1 : Link = record l { sending = s1; receiving = after_acks r1 8 } in
-    let sent_so = subst (λ (ids : List ℕ). Sent g.W.Wrap.wrapped c.flush.new.side c.flush.new.env c.reserve.new.self c.flush.new.out (record { kid = c.self.inside.kid; first = c.self.inside.first; remote = c.args.remote; to = c.args.to }) (flushed (head_in (record { kid = c.self.inside.kid; first = c.self.inside.first; remote = c.args.remote; to = c.args.to })) ids c.args.now.0 (ready s1) s1 h) (Ok c.in-Ok-flush.field-0)) (c.take_acks-acks.ensures.exact r1 put) (c.in-Ok-flush.ensures s1 h sending seals) in (
+    let sides = sides_of _ l (subst (λ (k : KeptLink). LinkStands k l) (sym c.self.view_is) stands) in
+    let ids = c.take_acks-acks.ensures.exact (put_if l.receiving v.id v.payload.now) (c.in-Ok-put_packet.ensures.ok l.receiving sides.receiving) in
+    subst (λ (o : Outcome). Left g.W.Wrap.wrapped c.send_all.new.self c.send_all.new.env c.args.out.now c.send_all.new.out c.args.to o) (received_goes l h (control_form v) c.args.remote c.args.now.0 (acked c.take_acks-acks.result) ids)
+    (left_from g.W.Wrap.wrapped c.send_all.new.self c.send_all.new.env c.args.out.now c.reserve.new.self c.send_all.new.out c.args.to (with_ready (put_link l h.own (control_form v)) h (acked c.take_acks-acks.result) c.args.remote c.args.now.0) c.reserve.ensures.same
+    (c.in-Ok-send_all.ensures.left (put_link l h.own (control_form v)) h (stands_ok g c l h stands seals) seals))
+
+pub returns-in-Ok-send_all-clause-answer : goal.returns-in-Ok-send_all-clause-answer
+returns-in-Ok-send_all-clause-answer g c = λ l h stands seals.
+    let v = c.args.v.now in
+    let sides = sides_of _ l (subst (λ (k : KeptLink). LinkStands k l) (sym c.self.view_is) stands) in
+    let ids = c.take_acks-acks.ensures.exact (put_if l.receiving v.id v.payload.now) (c.in-Ok-put_packet.ensures.ok l.receiving sides.receiving) in (
       c.in-Ok-put_packet.ensures.got l.receiving sides.receiving,
-      end_by_flush g.W.Wrap.wrapped (record { conn = c.self.inside.conn; kid = c.self.inside.kid; first = c.self.inside.first; sending = c.flush.new.side; receiving = c.take_acks-acks.new.self; spent = c.self.inside.spent }) c.flush.new.env c.reserve.new.self c.flush.new.out (record { kid = c.self.inside.kid; first = c.self.inside.first; remote = c.args.remote; to = c.args.to }) l1 (acks_of r1 8) c.args.now.0 (ready s1) s1 h (Ok c.in-Ok-flush.field-0)
-          sides.kid sides.first sent_so,
+      sym (ap (λ (o : Outcome). o.end) (received_goes l h (control_form v) c.args.remote c.args.now.0 (acked c.take_acks-acks.result) ids))
+          ∙ c.in-Ok-send_all.ensures.answer (put_link l h.own (control_form v)) h (stands_ok g c l h stands seals) seals,
     )
 
-pub returns-in-Err-flush-clause-left : goal.returns-in-Err-flush-clause-left
-unfolding received
-returns-in-Err-flush-clause-left g c = λ l h stands seals.
-    let sides = sides_of _ l (subst (λ (k : KeptLink). LinkStands k l) (sym c.self.view_is) stands) in
-    let v = c.args.v.now in
-    let put = c.in-Ok-put_packet.ensures.ok l.receiving sides.receiving in
-    let r1 = put_if l.receiving v.id v.payload.now in
-    let s1 = sending_after l.sending h.own (control_form v) in
-    let sending = subst (λ (own : Sid). Stands c.start_if_first.new.side (started_by v.id (all_acked (counted_ids own v.remote (acked v.acks)) l.sending))) (c.own.ensures h seals) (c.start_if_first.ensures _ (c.count_acks.ensures l.sending sides.sending)) in
-    let l1 : Link = record l { sending = s1; receiving = after_acks r1 8 } in
-    let sent_so = subst (λ (ids : List ℕ). Sent g.W.Wrap.wrapped c.flush.new.side c.flush.new.env c.reserve.new.self c.flush.new.out (record { kid = c.self.inside.kid; first = c.self.inside.first; remote = c.args.remote; to = c.args.to }) (flushed (head_in (record { kid = c.self.inside.kid; first = c.self.inside.first; remote = c.args.remote; to = c.args.to })) ids c.args.now.0 (ready s1) s1 h) (Err c.in-Err-flush.field-0)) (c.take_acks-acks.ensures.exact r1 put) (c.in-Err-flush.ensures s1 h sending seals) in
-    left_by_flush g.W.Wrap.wrapped (record { conn = c.self.inside.conn; kid = c.self.inside.kid; first = c.self.inside.first; sending = c.flush.new.side; receiving = c.take_acks-acks.new.self; spent = true }) c.flush.new.env c.args.out.now c.reserve.new.self c.flush.new.out (record { kid = c.self.inside.kid; first = c.self.inside.first; remote = c.args.remote; to = c.args.to }) l1 (acks_of r1 8) c.args.now.0 (ready s1) s1 h (Err c.in-Err-flush.field-0)
-    sides.conn sides.kid sides.first sides.kid sides.first (c.take_acks-acks.ensures.stands r1 put) refl c.reserve.ensures.same sent_so
+pub returns-in-Ok-send_all-clause-spare_text : goal.returns-in-Ok-send_all-clause-spare_text
+returns-in-Ok-send_all-clause-spare_text g c =
+    omega (arith, ap (λ (k : KeptLink). k.sending.spare) c.self.view_is, c.count_acks.ensures.spare, c.start_if_first.ensures.spare, c.in-Ok-send_all.ensures.spare.1)
 
-pub returns-in-Err-flush-clause-answer : goal.returns-in-Err-flush-clause-answer
-unfolding received
-returns-in-Err-flush-clause-answer g c = λ l h stands seals.
-    let sides = sides_of _ l (subst (λ (k : KeptLink). LinkStands k l) (sym c.self.view_is) stands) in
+-- the link stands for the one with the packet before everything is sent
+stands_err : (g : _) (c : In-Err-send_all g) (l : Link) (h : EnvelopeHistory) → LinkStands c.args.self.now l → EnvelopeStands g.W.Wrap.wrapped c.args.env.now h →
+    LinkStands (record { conn = c.self.inside.conn; kid = c.self.inside.kid; first = c.self.inside.first; sending = c.start_if_first.new.side; receiving = c.take_acks-acks.new.self; spent = c.self.inside.spent }) (put_link l h.own (control_form c.args.v.now))
+stands_err g c l h stands seals =
+    let before = subst (λ (k : KeptLink). LinkStands k l) (sym c.self.view_is) stands in
+    let sides = sides_of _ l before in
     let v = c.args.v.now in
-    let put = c.in-Ok-put_packet.ensures.ok l.receiving sides.receiving in
-    let r1 = put_if l.receiving v.id v.payload.now in
-    let s1 = sending_after l.sending h.own (control_form v) in
-    let sending = subst (λ (own : Sid). Stands c.start_if_first.new.side (started_by v.id (all_acked (counted_ids own v.remote (acked v.acks)) l.sending))) (c.own.ensures h seals) (c.start_if_first.ensures _ (c.count_acks.ensures l.sending sides.sending)) in
-    let l1 : Link = record l { sending = s1; receiving = after_acks r1 8 } in
-    let sent_so = subst (λ (ids : List ℕ). Sent g.W.Wrap.wrapped c.flush.new.side c.flush.new.env c.reserve.new.self c.flush.new.out (record { kid = c.self.inside.kid; first = c.self.inside.first; remote = c.args.remote; to = c.args.to }) (flushed (head_in (record { kid = c.self.inside.kid; first = c.self.inside.first; remote = c.args.remote; to = c.args.to })) ids c.args.now.0 (ready s1) s1 h) (Err c.in-Err-flush.field-0)) (c.take_acks-acks.ensures.exact r1 put) (c.in-Err-flush.ensures s1 h sending seals) in
-    end_by_flush g.W.Wrap.wrapped (record { conn = c.self.inside.conn; kid = c.self.inside.kid; first = c.self.inside.first; sending = c.flush.new.side; receiving = c.take_acks-acks.new.self; spent = true }) c.flush.new.env c.reserve.new.self c.flush.new.out (record { kid = c.self.inside.kid; first = c.self.inside.first; remote = c.args.remote; to = c.args.to }) l1 (acks_of r1 8) c.args.now.0 (ready s1) s1 h (Err c.in-Err-flush.field-0)
-    sides.kid sides.first sent_so
+    put_stands _ l h.own (control_form v) c.start_if_first.new.side c.take_acks-acks.new.self before
+    (subst (λ (own : Sid). Stands c.start_if_first.new.side (started_by v.id (all_acked (counted_ids own v.remote (acked v.acks)) l.sending))) (c.own.ensures h seals) (c.start_if_first.ensures.stands _ (c.count_acks.ensures.stands l.sending sides.sending)))
+    (c.take_acks-acks.ensures.stands (put_if l.receiving v.id v.payload.now) (c.in-Ok-put_packet.ensures.ok l.receiving sides.receiving))
+
+pub returns-in-Err-send_all-clause-left : goal.returns-in-Err-send_all-clause-left
+returns-in-Err-send_all-clause-left g c = λ l h stands seals.
+    let v = c.args.v.now in
+    let sides = sides_of _ l (subst (λ (k : KeptLink). LinkStands k l) (sym c.self.view_is) stands) in
+    let ids = c.take_acks-acks.ensures.exact (put_if l.receiving v.id v.payload.now) (c.in-Ok-put_packet.ensures.ok l.receiving sides.receiving) in
+    subst (λ (o : Outcome). Left g.W.Wrap.wrapped c.send_all.new.self c.send_all.new.env c.args.out.now c.send_all.new.out c.args.to o) (received_goes l h (control_form v) c.args.remote c.args.now.0 (acked c.take_acks-acks.result) ids)
+    (left_from g.W.Wrap.wrapped c.send_all.new.self c.send_all.new.env c.args.out.now c.reserve.new.self c.send_all.new.out c.args.to (with_ready (put_link l h.own (control_form v)) h (acked c.take_acks-acks.result) c.args.remote c.args.now.0) c.reserve.ensures.same
+    (c.in-Err-send_all.ensures.left (put_link l h.own (control_form v)) h (stands_err g c l h stands seals) seals))
+
+pub returns-in-Err-send_all-clause-answer : goal.returns-in-Err-send_all-clause-answer
+returns-in-Err-send_all-clause-answer g c = λ l h stands seals.
+    let v = c.args.v.now in
+    let sides = sides_of _ l (subst (λ (k : KeptLink). LinkStands k l) (sym c.self.view_is) stands) in
+    let ids = c.take_acks-acks.ensures.exact (put_if l.receiving v.id v.payload.now) (c.in-Ok-put_packet.ensures.ok l.receiving sides.receiving) in
+    sym (ap (λ (o : Outcome). o.end) (received_goes l h (control_form v) c.args.remote c.args.now.0 (acked c.take_acks-acks.result) ids))
+    ∙ c.in-Err-send_all.ensures.answer (put_link l h.own (control_form v)) h (stands_err g c l h stands seals) seals
+
+pub returns-in-Err-send_all-clause-spare_text : goal.returns-in-Err-send_all-clause-spare_text
+returns-in-Err-send_all-clause-spare_text g c =
+    omega (arith, ap (λ (k : KeptLink). k.sending.spare) c.self.view_is, c.count_acks.ensures.spare, c.start_if_first.ensures.spare, c.in-Err-send_all.ensures.spare.1)
