@@ -23,7 +23,7 @@ use vpn_links::Outbox;
 const MOST_HERE: usize = 12;
 
 /// What comes to a link, in a run.
-#[derive(Debug, Drop)]
+#[derive(Drop)]
 pub enum LinkEvent {
     /// Text to be sent is offered.
     Say {
@@ -63,7 +63,7 @@ pub struct LinkSetup {
 }
 
 /// What a run has come to: its control datagrams, staged in an outbox, and the text that was read.
-#[derive(Debug, Drop)]
+#[derive(Drop)]
 pub struct LinkRun {
     /// The control datagrams, staged in order.
     pub outbox: Outbox,
