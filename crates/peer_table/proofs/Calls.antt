@@ -12,7 +12,7 @@ use Rattle.peer_table.specs.KeySessions.{Session, session_begun, live_with}
 use Rattle.peer_table.specs.Peer.{Outcome, Peer, with_link, gone_on, remote_of}
 use Rattle.packet_ids.specs.LongFreshness.{long_freshness}
 use Rattle.opcode_codec.specs.declared.opcodes.Opcode.TheVariants.{SoftReset}
-use Rattle.control_link.specs.Runs.{read_here}
+use Rattle.control_link.specs.Reading.{read_here}
 use Rattle.peer_table.specs.ControlPackets.{Incoming, next_session, most_in_order, sender, begins_next, begun_by, control_came, judged, kid_in, newest_is_finished, placed, taken_by, with_next}
 use Rattle.std.specs.Prelude.{if◌then◌else◌}
 use Rattle.std.specs.Str.{bytes_eq}

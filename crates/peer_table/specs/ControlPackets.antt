@@ -14,7 +14,7 @@ use Rattle.packet_ids.specs.LongFreshness.{long_freshness}
 use Rattle.tls_crypt.specs.Packets.{Packet}
 use Rattle.control_link.specs.Calls as link
 use Rattle.control_link.specs.Envelope.{EnvelopeHistory, with_accepted}
-use Rattle.control_link.specs.Runs.{read_here, texts_here}
+use Rattle.control_link.specs.Reading.{read_here, texts_here}
 use Rattle.peer_table.specs.declared.outcomes.Refused.{Refused}
 use Rattle.peer_table.specs.declared.outcomes.Refused.TheVariants.{Replayed, BadKey}
 use Rattle.peer_table.specs.declared.outcomes.Turn.{Turn}

@@ -20,7 +20,8 @@ use Rattle.server_table.specs.ControlDatagrams.{first_of}
 use Rattle.server_table.specs.DataDatagrams.{FromWire}
 use Rattle.server_table.specs.Numbers.{AreStill}
 use Rattle.server_table.specs.Refusals.{is_refused}
-use Rattle.server_table.specs.Runs.{Entry, Lack, LacksAll, LacksHost, LacksNothing, after, after_all, after_lacking}
+use Rattle.server_table.specs.Runs.{Entry, after, after_all, after_lacking}
+use Rattle.vpn_links.specs.Steps.{Lack, LacksAll, LacksHost, LacksNothing}
 use Rattle.server_table.specs.Sound.{IsSound}
 use Rattle.server_table.specs.Step.{came, course_begun, datagram_as, device_came, device_passed, halted, is_over, line_came, line_said, moment_of, step, step_if}
 use Rattle.server_table.specs.internal.CallsKeepOrder.{CallsKeepOrder}

@@ -10,7 +10,8 @@ use Rattle.vpn_links.specs.declared.events.Kind.TheVariants.{Halt}
 use Rattle.server_table.specs.Table.{Table}
 use Rattle.server_table.specs.Courses.{Course, outs}
 use Rattle.server_table.specs.Step.{came, course_begun, course_of, is_over, step, step_if}
-use Rattle.server_table.specs.Runs.{Entry, Lack, LacksAll, LacksHost, LacksNothing, MayLack, MayRun, after, after_all, after_lacking, is_free, is_free_kind, is_not_learned, is_refusal, needs_host, outs_lacking, run}
+use Rattle.server_table.specs.Runs.{Entry, MayLack, MayRun, after, after_all, after_lacking, is_free, is_free_kind, is_not_learned, is_refusal, needs_host, outs_lacking, run}
+use Rattle.vpn_links.specs.Steps.{Lack, LacksAll, LacksHost, LacksNothing}
 
 -- it stays as it is
 pub stopped_step : (lacks : Bool) (t : Table) (event : Event) → is_over t ≡ true → step lacks t event ≡ course_of t
