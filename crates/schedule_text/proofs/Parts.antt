@@ -3,7 +3,7 @@ use Rattle.std.proofs.Common.{◌≡◌, ℕ, ◌<◌, Bool, false, List, [], �
 use Rattle.std.specs.Prelude.{None}
 use Rattle.std.specs.List.{slice_split}
 use Rattle.std.proofs.lemmas.List.Splits.{length-slice_split}
-use Rattle.schedule_text.specs.Words.{are_none, one_of, two_of}
+use Rattle.vpn_base.specs.WordCount.{are_none, one_of, two_of}
 
 some_parts : (p : ℕ → Bool) (text : List ℕ) → 0 < length (slice_split p text)
 some_parts p text = omega (arith, length-slice_split p text)

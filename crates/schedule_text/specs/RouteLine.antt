@@ -10,7 +10,8 @@ use Rattle.schedule_text.specs.declared.kind.TextKind.TheVariants as kinds
 use Rattle.schedule_text.specs.declared.route_line.RouteLine.{RouteLine}
 use Rattle.schedule_text.specs.declared.route_line.RouteLine.TheVariants as lines
 use Rattle.schedule_text.specs.SealLines.{key_line, seal_line, unseal_line}
-use Rattle.schedule_text.specs.Words.{words_of, are_none, one_of, two_of, network_of, bytes_of}
+use Rattle.vpn_base.specs.WordCount.{are_none, one_of, two_of}
+use Rattle.schedule_text.specs.Words.{words_of, network_of, bytes_of}
 
 -- the longest line, in bytes, without its end
 abbrev pub longest_line : ℕ

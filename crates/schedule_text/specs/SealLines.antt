@@ -8,7 +8,8 @@ use Rattle.schedule_text.specs.declared.kind.TextKind.{TextKind}
 use Rattle.schedule_text.specs.declared.kind.TextKind.TheVariants as kinds
 use Rattle.schedule_text.specs.declared.route_line.RouteLine.{RouteLine}
 use Rattle.schedule_text.specs.declared.route_line.RouteLine.TheVariants as lines
-use Rattle.schedule_text.specs.Words.{are_none, bytes_of}
+use Rattle.vpn_base.specs.WordCount.{are_none}
+use Rattle.schedule_text.specs.Words.{bytes_of}
 
 -- the number of a client that has a peer id: 24 bits, of which all ones stand for none
 abbrev pub peer_of : List ℕ → Option ℕ

@@ -1,42 +1,22 @@
 -- The words of a line, and what they spell.
-use Rattle.std.specs.Prelude.{ℕ, ◌-◌, ◌%◌, ◌^◌, ◌==◌, Bool, true, false, List, [], ◌∷◌, length, codes, Option, Some, None, if◌then◌else◌}
+use Rattle.std.specs.Prelude.{ℕ, ◌==◌, List, [], length, codes, Option, Some, None, if◌then◌else◌}
 use Rattle.std.specs.List.{slice_split}
 use Rattle.std.specs.Str.{bytes_eq}
 use Rattle.std.specs.Result.{result_ok}
-use Rattle.vpn_base.specs.declared.address.Ip4.{Ip4}
 use Rattle.vpn_base.specs.Address.{ip4_of}
-use Rattle.vpn_base.specs.Network.{Network}
+use Rattle.vpn_base.specs.Network.{Network, network_from}
 use Rattle.vpn_base.specs.Number.{number_of}
+use Rattle.vpn_base.specs.WordCount.{two_of}
 use Rattle.hex.specs.Hex.{decode_of}
 
 -- words are divided by one space
 abbrev pub words_of : List ℕ → List (List ℕ)
 words_of text = slice_split (λ c. c == 32) text
 
--- no words
-abbrev pub are_none : List (List ℕ) → Bool
-are_none [] = true
-are_none (word ∷ words) = false
-
--- exactly one
-abbrev pub one_of : List (List ℕ) → Option (List ℕ)
-one_of (a ∷ []) = Some a
-one_of _ = None
-
--- exactly two
-abbrev pub two_of : List (List ℕ) → Option (List ℕ × List ℕ)
-two_of (a ∷ b ∷ []) = Some (a, b)
-two_of _ = None
-
--- the network of an address and a length, with no bit set past the length
-abbrev pub network_at : Option Ip4 → Option ℕ → Option Network
-network_at (Some net) (Some len) = if net.0 % 2 ^ (32 - len) == 0 then Some (record { net = net; len = len }) else None
-network_at _ _ = None
-
--- the same, of the two words that spell it
+-- the network of the two words that spell it
 abbrev pub network_of_parts : Option (List ℕ × List ℕ) → Option Network
 network_of_parts None = None
-network_of_parts (Some parts) = network_at (ip4_of parts.0) (number_of 32 parts.1)
+network_of_parts (Some parts) = network_from (ip4_of parts.0) (number_of 32 parts.1)
 
 -- the network that a word spells, as 10.8.0.0/24
 unfoldable pub network_of : List ℕ → Option Network

@@ -3,7 +3,7 @@
 ghost use Rattle.std.specs.Prelude.{◌≡◌, IfOk};
 ghost use Rattle.std.specs.Option.{option_copied};
 ghost use Rattle.vpn_base.specs.Answers.{Answers};
-ghost use Rattle.schedule_text.specs.Words.{are_none, one_of, two_of};
+ghost use Rattle.vpn_base.specs.WordCount.{are_none, one_of, two_of};
 ghost use Rattle.schedule_text.specs.internal.Arguments.{arguments_of};
 ghost use Rattle.schedule_text.specs.SealLines.{IsBounded};
 ghost use Rattle.schedule_text.specs.RouteLine.{add_line, between_line, command_line, device_line, from_line, leave_line, owner_line, route_line, subnet_line};

@@ -3,7 +3,8 @@
 ghost use Rattle.std.specs.Prelude.{◌≡◌, ◌<◌, ◌≤◌, ◌^◌, length, IfOk, IfSome};
 ghost use Rattle.std.specs.Option.{option_copied};
 ghost use Rattle.vpn_base.specs.Answers.{Answers};
-ghost use Rattle.schedule_text.specs.Words.{are_none, bytes_of};
+ghost use Rattle.vpn_base.specs.WordCount.{are_none};
+ghost use Rattle.schedule_text.specs.Words.{bytes_of};
 ghost use Rattle.schedule_text.specs.internal.Arguments.{arguments_of};
 ghost use Rattle.schedule_text.specs.SealLines.{IsBounded, cipher_of, key_id_of, key_length, key_line, key_of, packet_id_of, peer_of, seal_line, seal_of, sized, unseal_line, unseal_of};
 

@@ -3,7 +3,8 @@
 ghost use Rattle.std.specs.Prelude.{◌≡◌, ◌==◌, [], ◌∷◌, Some, None, MatchOption, IfOk, IfSome, ◌*◌, ◌≤◌, length};
 ghost use Rattle.std.specs.List.{slice_split};
 ghost use Rattle.std.specs.Option.{option_copied};
-ghost use Rattle.schedule_text.specs.Words.{words_of, one_of, two_of, network_of, bytes_of};
+ghost use Rattle.vpn_base.specs.WordCount.{one_of, two_of};
+ghost use Rattle.schedule_text.specs.Words.{words_of, network_of, bytes_of};
 ghost use Rattle.schedule_text.specs.internal.Arguments.{arguments_of};
 
 use hex::FromHexError;

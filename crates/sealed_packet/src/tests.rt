@@ -1,8 +1,7 @@
 //! Values from outside: OpenSSL's AES-GCM through Python, over the packets that it was given.
 
 use super::*;
-use gcm_seal::{Aead, AnyGcm, Gcm128, Gcm256, NotSealed};
-use std::process::Abort;
+use gcm_seal::{Aead, Gcm128, Gcm256};
 
 const IMPLICIT: [u8; 8] = [0xa0, 0xa1, 0xa2, 0xa3, 0xa4, 0xa5, 0xa6, 0xa7];
 
@@ -24,65 +23,28 @@ const PACKET_LONG: [u8; 44] = [
     0x5a, 0x6b, 0xb0, 0x6b, 0xe0, 0x04, 0x08, 0xba, 0x81, 0x57, 0xab, 0xe9,
 ];
 
-const NOTHING_SHORT: [u8; 24] = [
-    0x4f, 0xff, 0xff, 0xff, 0xff, 0xff, 0xff, 0xff, 0xd2, 0x78, 0x77, 0xbb, 0x44, 0x96, 0x77, 0x8b,
-    0xa6, 0x6d, 0x35, 0x85, 0x92, 0xd8, 0x30, 0x1c,
+const KEY_SHORT: [u8; 16] = [
+    0x00, 0x01, 0x02, 0x03, 0x04, 0x05, 0x06, 0x07, 0x08, 0x09, 0x0a, 0x0b, 0x0c, 0x0d, 0x0e, 0x0f,
 ];
 
-fn short() -> AnyGcm {
-    let mut key = [0u8; 16];
-    for i in 0..16usize {
-        key[i] = i as u8;
-    }
-    AnyGcm::Short(Gcm128::new(&key))
-}
+const KEY_LONG: [u8; 32] = [
+    0x00, 0x01, 0x02, 0x03, 0x04, 0x05, 0x06, 0x07, 0x08, 0x09, 0x0a, 0x0b, 0x0c, 0x0d, 0x0e, 0x0f,
+    0x10, 0x11, 0x12, 0x13, 0x14, 0x15, 0x16, 0x17, 0x18, 0x19, 0x1a, 0x1b, 0x1c, 0x1d, 0x1e, 0x1f,
+];
 
-fn long() -> AnyGcm {
-    let mut key = [0u8; 32];
-    for i in 0..32usize {
-        key[i] = i as u8;
-    }
-    AnyGcm::Long(Gcm256::new(&key))
-}
-
-// Seals an inner packet of at most 40 bytes, compares the packet, and opens it again.
-fn seals_and_opens<C: Aead>(
-    rt: &impl Abort,
-    cipher: &C,
-    (kid, peer, id): (u8, u32, u32),
-    inner: &[u8],
-    want: &[u8],
-) {
-    assert!(rt; kid < 8 && peer < 1 << 24 && inner.len() <= 40);
-    let mut out = [0xeeu8; 70];
-    let count = seal_packet(cipher, IMPLICIT, kid, peer, id, inner, &mut out);
-    assert!(rt; count <= 64);
-    let same = want == &out[..count];
-    assert!(rt; same, "sealed to something else: {peer:x}");
-    assert_eq!(rt; out[count], 0xee, "more was written: {peer:x}");
-    let datagram = &mut out[..count];
-    assert_eq!(rt; open_packet(cipher, IMPLICIT, kid, datagram), Ok(id));
-    let same = inner == &out[24..count];
-    assert!(rt; same, "opened to something else: {peer:x}");
+// The packet of the inner packet under key id 0, peer id 1 and packet id 7.
+fn sealed<C: Aead>(cipher: &C) -> [u8; 44] {
+    let mut out = [0; 44];
+    let _count = seal_packet(cipher, IMPLICIT, 0, 1, 7, &INNER, &mut out);
+    out
 }
 
 #[test]
 fn packets(rt: HostRuntime) {
-    seals_and_opens(&rt, &short(), (0, 1, 7), &INNER, &PACKET_SHORT);
-    seals_and_opens(&rt, &long(), (0, 1, 7), &INNER, &PACKET_LONG);
-    let last = (7, 0xff_ffff, 0xffff_ffff);
-    seals_and_opens(&rt, &short(), last, &[], &NOTHING_SHORT);
-    let mut datagram = PACKET_SHORT;
-    assert_eq!(rt;
-        open_packet(&short(), IMPLICIT, 1, &mut datagram),
-        Err(NotSealed)
-    );
-}
-
-// The laws are called once; what they say is in their contracts.
-#[test]
-fn laws(_rt: HostRuntime) {
-    opens_once(&short());
-    opens_what_was_sealed(&short());
-    opening_is_what_opens(&short());
+    let short = Gcm128::new(&KEY_SHORT);
+    let mut datagram = sealed(&short);
+    assert_eq!(rt; datagram, PACKET_SHORT);
+    assert_eq!(rt; open_packet(&short, IMPLICIT, 0, &mut datagram), Ok(7));
+    assert_eq!(rt; &datagram[24..], INNER.as_slice());
+    assert_eq!(rt; sealed(&Gcm256::new(&KEY_LONG)), PACKET_LONG);
 }

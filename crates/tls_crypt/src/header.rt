@@ -3,8 +3,8 @@
 ghost use Rattle.std.specs.Prelude.{◌≡◌, ◌≤◌, length, take};
 ghost use Rattle.tls_crypt.specs.Wrapped.{header};
 
-use crate::bytes::{array_at, put};
-use vpn_base::Sid;
+use crate::bytes::array_at;
+use vpn_base::{Sid, write_at};
 
 // The bytes of a header.
 pub(crate) const HEADER_LEN: usize = 17;
@@ -27,10 +27,10 @@ pub(crate) fn header_of(first: u8, sid: Sid, id: u32, time: u32) -> [u8; HEADER_
     ensures { result ≡ header first sid.0 id time }
 {
     let mut bytes = [0; HEADER_LEN];
-    put(&mut bytes, 0, &[first]);
-    put(&mut bytes, 1, &sid.0);
-    put(&mut bytes, 9, &id.to_be_bytes());
-    put(&mut bytes, 13, &time.to_be_bytes());
+    write_at(&mut bytes, 0, &[first]);
+    write_at(&mut bytes, 1, &sid.0);
+    write_at(&mut bytes, 9, &id.to_be_bytes());
+    write_at(&mut bytes, 13, &time.to_be_bytes());
     bytes
 }
 

@@ -3,8 +3,7 @@
 ghost use Rattle.std.specs.Prelude.{◌≡◌, ℕ, suc, ◌+◌, ◌≤◌, ◌<◌, ◌==◌, [], ◌∷◌, Ok, Err, length, IfSome, IfNone, IfOk, IfErr, if◌then◌else◌};
 ghost use Rattle.tls_crypt.specs.StaticKey.{behind, body, digits_of, key_lines, static_key};
 
-use crate::bytes::put;
-use vpn_base::next_line;
+use vpn_base::{next_line, write_at};
 
 // The line in front of the digits, and the line behind them.
 const BEGIN: &[u8] = b"-----BEGIN OpenVPN Static key V1-----";
@@ -112,7 +111,7 @@ fn key_behind(text: &[u8], begin: u32) -> Result<StaticKey, KeyFault>
         match digit_line(rest) {
             Some(found) => {
                 let bytes = found.0;
-                put(&mut key, LINE_BYTES * k as usize, &bytes);
+                write_at(&mut key, LINE_BYTES * k as usize, &bytes);
                 rest = found.1;
             }
             None => {

@@ -8,13 +8,13 @@ ghost use Rattle.tls_crypt.specs.Packets.{Directions, InRange, Packet, wrapped_b
 ghost use Rattle.tls_crypt.specs.Unwrapping.{unwrapping};
 ghost use Rattle.tls_crypt.specs.internal.Laws.{framed, one_packet};
 
-use crate::bytes::{array_at, put};
+use crate::bytes::array_at;
 use crate::half::{Half, OVERHEAD};
 use crate::header::{HEADER_LEN, Header, header_at, header_of};
 use crate::static_key::StaticKey;
 use crate::wrapping::{Unwrap, Wrap};
 use std::marker::Model;
-use vpn_base::{Role, Sid};
+use vpn_base::{Role, Sid, write_at};
 
 // The bytes of a half of a static key.
 const HALF_LEN: usize = 128;
@@ -73,9 +73,9 @@ impl Wrap for Wrapper {
         let header = header_of(first, sid, id, time);
         let tag = self.writes.tag(&header, plain);
         let end = OVERHEAD + plain.len();
-        put(out, 0, &header);
-        put(out, HEADER_LEN, &tag);
-        put(out, OVERHEAD, plain);
+        write_at(out, 0, &header);
+        write_at(out, HEADER_LEN, &tag);
+        write_at(out, OVERHEAD, plain);
         self.writes.encipher(&tag, &mut out[..end]);
         end
     }

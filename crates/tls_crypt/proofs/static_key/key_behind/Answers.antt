@@ -25,18 +25,18 @@ lines-preserved c =
     let size : length bytes ≡ 16 = search rules in
     let left : 16 - k ≡ suc (15 - k) = omega arith in
     let next : 16 * k + 16 ≡ 16 * (k + 1) = omega arith in
-    let written : front ++ bytes ≡ take (16 * (k + 1)) c.put.new.out =
-    sym c.put.ensures.written ∙ ap (λ (n : ℕ). take (16 * k + n) c.put.new.out) size ∙ ap (λ (n : ℕ). take n c.put.new.out) next in
+    let written : front ++ bytes ≡ take (16 * (k + 1)) c.write_at.new.out =
+    sym c.write_at.ensures.written ∙ ap (λ (n : ℕ). take (16 * k + n) c.write_at.new.out) size ∙ ap (λ (n : ℕ). take n c.write_at.new.out) next in
     let fewer : 15 - k ≡ 16 - (k + 1) = omega arith in
     let later : begin + k + 1 ≡ begin + (k + 1) = omega arith in
-    let kept : length c.put.new.out ≡ 256 = search rules in (
+    let kept : length c.write_at.new.out ≡ 256 = search rules in (
       c.lines.invariant.0
           ∙ ap (λ (n : ℕ). behind front (body n (begin + k) (key_lines c.lines.rest.now))) left
           ∙ ap (behind front) (c.in-Some.ensures.digits (15 - k) (begin + k))
           ∙ behind-behind front bytes (body (15 - k) (begin + k + 1) rest)
           ∙ ap (λ (l : List ℕ). behind l (body (15 - k) (begin + k + 1) rest)) written
-          ∙ ap (λ (n : ℕ). behind (take (16 * (k + 1)) c.put.new.out) (body n (begin + k + 1) rest)) fewer
-          ∙ ap (λ (n : ℕ). behind (take (16 * (k + 1)) c.put.new.out) (body (16 - (k + 1)) n rest)) later,
+          ∙ ap (λ (n : ℕ). behind (take (16 * (k + 1)) c.write_at.new.out) (body n (begin + k + 1) rest)) fewer
+          ∙ ap (λ (n : ℕ). behind (take (16 * (k + 1)) c.write_at.new.out) (body (16 - (k + 1)) n rest)) later,
       kept,
     )
 

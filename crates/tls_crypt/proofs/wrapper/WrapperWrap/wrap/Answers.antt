@@ -11,14 +11,14 @@ returns-clause-written c =
     let mac = c.tag-tag.result in
     let plain = c.args.plain.now in
     let keys = c.self.inside.writes in
-    let before = take (49 + length plain) c.put-3.new.out in
+    let before = take (49 + length plain) c.write_at-3.new.out in
     let after = c.encipher.new.datagram in
     let front_size : length front ≡ 17 = search rules in
     let mac_size : length mac ≡ 32 = search rules in
-    let one : take 17 c.put.new.out ≡ front = sym (ap (λ (n : ℕ). take (0 + n) c.put.new.out) front_size) ∙ c.put.ensures.written in
-    let two : take 49 c.put-2.new.out ≡ front ++ mac =
-    sym (ap (λ (n : ℕ). take (17 + n) c.put-2.new.out) mac_size) ∙ c.put-2.ensures.written ∙ ap (λ (l : List ℕ). l ++ mac) one in
-    let three : before ≡ (front ++ mac) ++ plain = c.put-3.ensures.written ∙ ap (λ (l : List ℕ). l ++ plain) two in
+    let one : take 17 c.write_at.new.out ≡ front = sym (ap (λ (n : ℕ). take (0 + n) c.write_at.new.out) front_size) ∙ c.write_at.ensures.written in
+    let two : take 49 c.write_at-2.new.out ≡ front ++ mac =
+    sym (ap (λ (n : ℕ). take (17 + n) c.write_at-2.new.out) mac_size) ∙ c.write_at-2.ensures.written ∙ ap (λ (l : List ℕ). l ++ mac) one in
+    let three : before ≡ (front ++ mac) ++ plain = c.write_at-3.ensures.written ∙ ap (λ (l : List ℕ). l ++ plain) two in
     let enciphered : after ≡ take 49 before ++ cipher_text keys mac (drop 49 before) = c.encipher.ensures in
     let whole = wrapped_in_place keys front mac plain before after front_size c.tag-tag.ensures three enciphered in
     take_at after _ (49 + length plain) (ap length whole ∙ length-datagram keys front plain front_size)
@@ -32,11 +32,11 @@ returns-clause-rest c =
     let end = 49 + length c.args.plain.now in
     let front_size : length c.header_of-header.result ≡ 17 = search rules in
     let mac_size : length c.tag-tag.result ≡ 32 = search rules in
-    let one : drop 17 c.put.new.out ≡ drop 17 c.args.out.now =
-    sym (ap (λ (n : ℕ). drop (0 + n) c.put.new.out) front_size) ∙ c.put.ensures.rest ∙ ap (λ (n : ℕ). drop (0 + n) c.args.out.now) front_size in
-    let two : drop 49 c.put-2.new.out ≡ drop 49 c.put.new.out =
-    sym (ap (λ (n : ℕ). drop (17 + n) c.put-2.new.out) mac_size) ∙ c.put-2.ensures.rest ∙ ap (λ (n : ℕ). drop (17 + n) c.put.new.out) mac_size in
+    let one : drop 17 c.write_at.new.out ≡ drop 17 c.args.out.now =
+    sym (ap (λ (n : ℕ). drop (0 + n) c.write_at.new.out) front_size) ∙ c.write_at.ensures.rest ∙ ap (λ (n : ℕ). drop (0 + n) c.args.out.now) front_size in
+    let two : drop 49 c.write_at-2.new.out ≡ drop 49 c.write_at.new.out =
+    sym (ap (λ (n : ℕ). drop (17 + n) c.write_at-2.new.out) mac_size) ∙ c.write_at-2.ensures.rest ∙ ap (λ (n : ℕ). drop (17 + n) c.write_at.new.out) mac_size in
     drop_at c.encipher.new.datagram _ end size
-    ∙ c.put-3.ensures.rest
-    ∙ drop_kept 49 end c.put-2.new.out c.put.new.out (omega arith) two
-    ∙ drop_kept 17 end c.put.new.out c.args.out.now (omega arith) one
+    ∙ c.write_at-3.ensures.rest
+    ∙ drop_kept 49 end c.write_at-2.new.out c.write_at.new.out (omega arith) two
+    ∙ drop_kept 17 end c.write_at.new.out c.args.out.now (omega arith) one
