@@ -26,11 +26,9 @@ use tls_crypt::{Opened, StaticKey};
 use vpn_base::{Addr, Cipher, Conn, Draw, Moment, NoMemory, Place, Policy, Role, Sid, Timers};
 use vpn_links::{Kind, Outbox};
 
-/// The session of one client with all its key sessions, as a core knows it. Each call leaves it and the
-/// outbox as one function over everything that the client ever said has it, and answers that function's
-/// answer; at want of memory nothing has changed.
-///
-/// The memory for an event is taken by `ready`, before the first call that belongs to the event.
+/// The session of one client with all its key sessions. Each call leaves it and the outbox as one function
+/// over everything that the client ever said has it, and answers that function's answer; at want of memory
+/// nothing has changed. `ready` takes the memory for an event, before the first call that belongs to it.
 pub trait ClientSession {
     /// The client for which it stands.
     ghost stands: { Self → Peer → Type 0 };
@@ -52,9 +50,8 @@ pub trait ClientSession {
     ghost ready_for_file: { (s : Self) (cid : Cid) (answer : FileAnswer) (established : Bool) (effects bytes : ℕ) →
         is_ready s (File cid answer) established effects bytes → may_exchange s };
 
-    /// A session whose key session 0 begins on this connection, at this moment in milliseconds. Its engine
-    /// connection is opened. The own session id, the timers and the half of the static key for this role are
-    /// those of all its control packets.
+    /// A session whose key session 0 begins on this connection, which is opened, at this moment in milliseconds.
+    /// The own session id, the timers and the half of the static key for this role are those of its packets.
     fn begin(
         alloc: Global,
         role: Role,
@@ -76,8 +73,8 @@ pub trait ClientSession {
         ensures uses { Uses out.old out.new 2 1200 }
         ensures first { IfOk result (λ s. count s ≡ 1) };
 
-    /// Takes the memory that the calls for an event may need beside the outbox, and answers for how many
-    /// effects and bytes the outbox has to have room. `established` says that the client is established.
+    /// Takes the memory that the calls for an event of a client, established or not, may need beside the outbox,
+    /// and answers for how many effects and bytes the outbox has to have room.
     fn ready(&mut self, kind: &Kind, established: bool) -> Result<(usize, usize), NoMemory>
         requires few { count self.old < 2 ^ 64 - 1 }
         requires goes_on { goes_on self.old }
@@ -86,9 +83,8 @@ pub trait ClientSession {
         ensures ready { IfOk result (λ room. is_ready self.new kind.now established room.0 room.1) }
         ensures count { count self.new ≡ count self.old };
 
-    /// A control packet has come that unwrapped and whose plain text was read. Refused are a wrap that was
-    /// accepted before, and a packet that belongs to no live key session and begins none. `next_conn` is the
-    /// number of the next engine connection; whether it was used, the effects tell.
+    /// A control packet has come. Refused are a wrap that was accepted before, and a packet that belongs to no
+    /// live key session and begins none. The effects tell whether the next engine connection was opened.
     fn on_control(
         &mut self,
         opened: &Opened<'_>,
@@ -113,8 +109,8 @@ pub trait ClientSession {
             length view.now.payload.now ≤ length bytes → Uses out.old out.new effects room }
         ensures count { count self.new ≤ count self.old + 1 };
 
-    /// The engine has answered on a connection. An answer for no open connection does nothing, and neither
-    /// does one that says that the connection is down: the owner ends the client then.
+    /// The engine has answered on a connection. An answer for no open one does nothing, and neither does one
+    /// that says that the connection is down: the owner ends the client then.
     fn on_engine(
         &mut self,
         kind: &Kind,
@@ -132,9 +128,8 @@ pub trait ClientSession {
             HasRoom out.old effects room → HasRoom out.new 2 93 × Uses out.old out.new effects room }
         ensures count { count self.new ≡ count self.old };
 
-    /// Makes the key exchange of the newest key session, where it is prepared, and does nothing where it is
-    /// not. What is sealed under its keys carries this peer id. The server's key source is taken from the
-    /// draw.
+    /// Makes the key exchange of the newest key session, and does nothing where it is not prepared. What is
+    /// sealed under its keys carries this peer id. The server's key source is taken from the draw.
     fn exchange(
         &mut self,
         policy: &Policy,
@@ -186,9 +181,8 @@ pub trait ClientSession {
         ensures uses { (effects room : ℕ) → is_ready self.old Kind.Tick established effects room → Uses out.old out.new effects room }
         ensures count { count self.new ≤ count self.old + 1 };
 
-    /// Seals an inner packet of at most 1,500 bytes under the newest usable keys, and adds it to the outbox as
-    /// an effect. `Spent` comes exactly where the last packet id was used, or where there are no keys. It takes
-    /// no memory.
+    /// Seals an inner packet of at most 1,500 bytes under the newest usable keys, as an effect. `Spent` comes
+    /// exactly where the last packet id was used, or where there are no keys. It takes no memory.
     fn seal_to(&mut self, inner: &[u8], to: Addr, out: &mut Outbox) -> Result<(), Spent>
         requires short { length inner.now ≤ 1500 }
         requires room { HasRoom out.old 1 1524 }
@@ -200,8 +194,7 @@ pub trait ClientSession {
         ensures count { count self.new ≡ count self.old };
 
     /// Opens a data packet in place, and answers the length of its inner packet, which then stands behind the
-    /// first 24 bytes. The bytes are unchanged where no usable key session has the key id or nothing opens. It
-    /// takes no memory.
+    /// first 24 bytes. The bytes are unchanged where nothing opens. It takes no memory.
     fn unseal(&mut self, datagram: &mut [u8], now: Moment) -> Result<usize, SessionFault>
         requires short { length datagram.old ≤ 65536 }
         requires goes_on { goes_on self.old }
