@@ -39,8 +39,7 @@ pub trait ClientSession {
     /// It did not end: after a turn that is over, only calls that look follow.
     ghost goes_on: { Self → Type 0 };
 
-    /// It has the memory for this event, of a client that is established or is not, beside an outbox with room
-    /// for so many effects and bytes.
+    /// It has the memory for this event beside an outbox with room for so many effects and bytes.
     ghost is_ready: { Self → Kind → Bool → ℕ → ℕ → Type 0 };
 
     /// It has the memory for a key exchange.
@@ -160,8 +159,7 @@ pub trait ClientSession {
         ensures goes_on { goes_on self.new }
         ensures count { count self.new ≡ count self.old };
 
-    /// Time has passed. `established` says that the client is, `idle` that nothing fresh came of it
-    /// for too long.
+    /// Time has passed. `idle` says that nothing fresh came of the client for too long.
     fn on_tick(
         &mut self,
         next_conn: Conn,
