@@ -3,5 +3,4 @@ pub mod LinkStore
 pub mod Rounds
 pub mod Starts
 pub mod Steps
-pub mod Texts
 pub mod internal
