@@ -1,4 +1,4 @@
--- What holds of every link and of every blank one.
+-- What holds of every link.
 use Rattle.std.specs.Prelude.{◌≡◌, ℕ, ◌<◌, List, []}
 use Rattle.opcode_codec.specs.declared.opcodes.Opcode.{Opcode}
 use Rattle.control_link.specs.Links.{IsReset}
