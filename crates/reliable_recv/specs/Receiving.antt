@@ -53,11 +53,11 @@ read_as (Some payload) r = record r { read = r.read + 1 }
 unfoldable pub after_next : Receiving → Receiving
 after_next r = read_as (next_payload r) r
 
--- the ids that are taken to be acknowledged: so many of those that wait, the oldest first, and at most 8
+-- the ids that are given out to be acknowledged: so many of those that wait, the oldest first, and at most 8
 abbrev pub acks_of : Receiving → ℕ → List ℕ
 acks_of r most = take (min most 8) r.waiting
 
--- after they were taken
+-- after they were given out
 unfoldable pub after_acks : Receiving → ℕ → Receiving
 after_acks r most = record r { waiting = drop (min most 8) r.waiting }
 

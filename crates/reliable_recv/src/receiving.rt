@@ -133,9 +133,9 @@ fn take_first(waiting: &mut VecDeque<u32>) -> u32
     }
 }
 
-// Takes so many ids, the oldest first, at most 8.
+// Gives out so many ids, the oldest first, at most 8.
 fn take_ids(waiting: &mut VecDeque<u32>, most: u8) -> Acks
-    ensures taken { acked result ≡ take (min most 8) waiting.old.items }
+    ensures given { acked result ≡ take (min most 8) waiting.old.items }
     ensures acks { AreAcks result }
     ensures rest { waiting.new.items ≡ drop (min most 8) waiting.old.items }
     ensures count { length waiting.new.items + result.count ≡ length waiting.old.items }
@@ -233,7 +233,7 @@ impl RecvSide {
         Some(payload)
     }
 
-    /// Takes so many of the ids that wait to be acknowledged, the oldest first, at most 8. It takes no
+    /// Gives out so many of the ids that wait to be acknowledged, the oldest first, at most 8. It takes no
     /// memory.
     pub fn take_acks(&mut self, most: u8) -> Acks
         ensures given { acked result ≡ acks_of self.old.kept most }

@@ -3,7 +3,7 @@ use Rattle.std.proofs.Common.{◌≡◌, ℕ, ◌+◌, ◌<◌, ◌≤◌, List,
 use Rattle.std.proofs.lemmas.List.{append_assoc, append-nil, drop_more, map_push, take_more, take_all}
 use Rattle.std.specs.Prelude.{Some, None}
 use Rattle.vpn_base.specs.declared.names.Moment.{Moment}
-use Rattle.reliable_send.specs.declared.runs.Event.{Event}
+use Rattle.reliable_send.specs.declared.runs.SendingEvent.{SendingEvent}
 use Rattle.reliable_send.specs.Sending.{Sending, Numbered, due, ready, sent}
 use Rattle.reliable_send.specs.Sides.{Side, Stands, first_id, first_of}
 use Rattle.reliable_send.specs.Runs.{SentAt, after, after_all, sent_all, sent_by, sent_in}
@@ -81,10 +81,10 @@ due_shrinks_so now side k p rest s e = due_after k p rest now s.reached.some e
 
 -- ---- events
 
-pub sent_in-push : (es : List Event) (e : Event) (h : Sending) → sent_in (es ++ e ∷ []) h ≡ sent_in es h ++ sent_by (after_all es h) e
+pub sent_in-push : (es : List SendingEvent) (e : SendingEvent) (h : Sending) → sent_in (es ++ e ∷ []) h ≡ sent_in es h ++ sent_by (after_all es h) e
 sent_in-push [] e h = append-nil (sent_by h e)
 sent_in-push (x ∷ es) e h = ap (λ (l : List SentAt). sent_by h x ++ l) (sent_in-push es e (after h x)) ∙ sym (append_assoc (sent_by h x) (sent_in es (after h x)) (sent_by (after_all es (after h x)) e))
 
-pub after_all-push : (es : List Event) (e : Event) (h : Sending) → after_all (es ++ e ∷ []) h ≡ after (after_all es h) e
+pub after_all-push : (es : List SendingEvent) (e : SendingEvent) (h : Sending) → after_all (es ++ e ∷ []) h ≡ after (after_all es h) e
 after_all-push [] e h = refl
 after_all-push (x ∷ es) e h = after_all-push es e (after h x)

@@ -11,7 +11,7 @@ use vpn_base::{Bytes, Moment, NoMemory, Or};
 
 /// What happens to a sending side.
 #[derive(Debug, Drop)]
-pub enum Event {
+pub enum SendingEvent {
     /// Bytes are offered.
     Offer(Bytes),
     /// The peer's packet 0 is here.
@@ -68,24 +68,24 @@ fn offer_if_room(side: &mut SendSide, bytes: &[u8]) -> Result<(), NoMemory>
 
 fn take_event(
     side: &mut SendSide,
-    event: &Event,
+    event: &SendingEvent,
     log: &mut Vec<(Moment, u32)>,
 ) -> Result<(), NoMemory>
     ensures told { OnOk result ((h : Sending) → Stands side.old h → log.new.items ≡ log.old.items ++ sent_by h event.now) }
     ensures stands { OnOk result ((h : Sending) → Stands side.old h → Stands side.new (after h event.now)) }
 {
     match event {
-        Event::Offer(bytes) => offer_if_room(side, bytes.as_slice()),
-        Event::Started => {
+        SendingEvent::Offer(bytes) => offer_if_room(side, bytes.as_slice()),
+        SendingEvent::Started => {
             side.peer_started();
             Ok(())
         }
-        Event::Acked(id) => {
+        SendingEvent::Acked(id) => {
             side.acked(*id);
             Ok(())
         }
-        Event::Send(now) => send_ready(side, *now, log),
-        Event::Tick(now) => send_due(side, *now, log),
+        SendingEvent::Send(now) => send_ready(side, *now, log),
+        SendingEvent::Tick(now) => send_due(side, *now, log),
     }
 }
 
@@ -94,7 +94,7 @@ fn take_event(
 pub fn run_sending(
     alloc: Global,
     timeout_secs: u32,
-    events: &[Event],
+    events: &[SendingEvent],
 ) -> Result<Vec<(Moment, u32)>, NoMemory>
     requires some { 1 ≤ timeout_secs }
     requires most { timeout_secs ≤ 60 }

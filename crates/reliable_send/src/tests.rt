@@ -6,9 +6,9 @@ use vpn_base::{Bytes, Moment, Or};
 
 #[test]
 fn a_piece_is_sent_again_until_it_is_acknowledged(rt: HostRuntime) -> Result<(), Fail> {
-    let mut events = vec![in rt.alloc(); Event::Send(Moment(0))]?;
+    let mut events = vec![in rt.alloc(); SendingEvent::Send(Moment(0))]?;
     for second in 1..183u64 {
-        events.push(Event::Tick(Moment(1000 * second)))?;
+        events.push(SendingEvent::Tick(Moment(1000 * second)))?;
     }
     let log = run_sending(rt.alloc(), 2, &events)?;
     let wanted = [
@@ -29,13 +29,13 @@ fn a_piece_is_sent_again_until_it_is_acknowledged(rt: HostRuntime) -> Result<(),
 fn six_pieces_are_in_flight(rt: HostRuntime) -> Result<(), Fail> {
     let text = Bytes::of(vec![in rt.alloc(); 7; 5_501]?);
     let events = [
-        Event::Offer(text),
-        Event::Started,
-        Event::Send(Moment(0)),
-        Event::Acked(3),
-        Event::Send(Moment(1)),
-        Event::Acked(0),
-        Event::Send(Moment(2)),
+        SendingEvent::Offer(text),
+        SendingEvent::Started,
+        SendingEvent::Send(Moment(0)),
+        SendingEvent::Acked(3),
+        SendingEvent::Send(Moment(1)),
+        SendingEvent::Acked(0),
+        SendingEvent::Send(Moment(2)),
     ];
     let log = run_sending(rt.alloc(), 60, &events)?;
     let wanted = [

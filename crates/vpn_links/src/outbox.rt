@@ -102,8 +102,7 @@ fn keep(store: &mut Vec<u8>, e: &Effect<'_>) -> Result<Kept, NoMemory>
         Effect::Device { bytes } => Ok(Kept::Device {
             span: put(store, bytes)?,
         }),
-        // Never comes, by the condition.
-        Effect::Configure { .. } => Ok(Kept::Stop),
+        Effect::Configure { .. } => unreachable!(),
         Effect::Ask { cid, name } => Ok(Kept::Ask {
             cid: *cid,
             span: put(store, name)?,

@@ -7,7 +7,7 @@ use Rattle.reliable_recv.proofs.receiving.RecvSide.take_acks.Goals as goal
 pub returns-clause-exact : goal.returns-clause-exact
 unfolding Stands
 returns-clause-exact c = λ h s.
-    c.take_ids.ensures.taken ∙ ap (λ (w : Side). acks_of w.kept c.args.most) c.self.view_is ∙ acks_is c.args.self.now.kept h c.args.most s
+    c.take_ids.ensures.given ∙ ap (λ (w : Side). acks_of w.kept c.args.most) c.self.view_is ∙ acks_is c.args.self.now.kept h c.args.most s
 
 pub returns-clause-new : goal.returns-clause-new
 returns-clause-new c =
