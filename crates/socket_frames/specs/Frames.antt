@@ -19,7 +19,7 @@ pub data Front : Type 0 where
   Faulty : FrameFault → Front
   Whole : Frame → List ℕ → Front
 
--- with a body of this size: whether all of it is there
+-- with a body of this size: whether the frame is cut off
 abbrev pub held : List ℕ → ℕ → Bool → Front
 held bytes size true = Partial
 held bytes size false = Whole (record { kind = slice_index bytes 4; conn = big_number 8 (drop 5 bytes); body = take size (drop 13 bytes) }) (drop (13 + size) bytes)
