@@ -193,12 +193,7 @@ pub fn load_line(
 
 /// The bytes of a client: `>BYTECOUNT_CLI:CID,IN,OUT`.
 #[tactic(auto, unfolding(crate::specs::Texts::count_text))]
-pub fn count_line(
-    alloc: Global,
-    cid: Cid,
-    bytes_in: u64,
-    bytes_out: u64,
-) -> Result<Text, NoMemory>
+pub fn count_line(alloc: Global, cid: Cid, bytes_in: u64, bytes_out: u64) -> Result<Text, NoMemory>
     ensures { IfOk result (λ t. t ≡ count_text cid bytes_in bytes_out) }
 {
     let mut text = Vec::from_slice(alloc, b">BYTECOUNT_CLI:")?;
