@@ -1,10 +1,8 @@
 -- The lines that are written have no control byte.
-use Rattle.std.proofs.Common.{◌≡◌, ℕ, zero, suc, ◌/◌, ◌%◌, ◌^◌, ◌<◌, ◌==◌, ◌&&◌, Bool, true, false, not, cond, List, [], ◌∷◌, ◌++◌, refl, ap, ◌∙◌, arith}
+use Rattle.std.proofs.Common.{◌≡◌, ℕ, ◌%◌, ◌==◌, Bool, true, false, not, cond, List, ◌∷◌, ◌++◌, refl, arith}
 use Rattle.std.specs.Prelude.{codes}
-use Rattle.std.specs.List.{list_all}
-use Rattle.std.specs.Fmt.{decimal, digit_glyph, digits, digits_onto}
+use Rattle.std.specs.Fmt.{decimal, digit_glyph}
 use Rattle.std.proofs.lemmas.Grind.{common_steps}
-use Rattle.std.proofs.lemmas.List.Folds.{list_all-append}
 use Rattle.vpn_base.specs.declared.address.Ip4.{Ip4}
 use Rattle.vpn_base.specs.declared.address.Addr.{Addr}
 use Rattle.vpn_base.specs.declared.names.Cid.{Cid}
@@ -12,28 +10,24 @@ use Rattle.vpn_base.specs.declared.names.Moment.{Moment}
 use Rattle.vpn_base.specs.Address.{ip4_text}
 use Rattle.vpn_base.specs.Network.{Network}
 use Rattle.vpn_text.specs.Words.{is_control}
-use Rattle.mgmt_lines.specs.declared.commands.CommandFault.{CommandFault}
-use Rattle.mgmt_lines.specs.declared.commands.CommandFault.TheVariants as faults
-use Rattle.mgmt_lines.specs.declared.fixed.FixedLine.{FixedLine}
-use Rattle.mgmt_lines.specs.declared.fixed.FixedLine.TheVariants as lines
 use Rattle.mgmt_lines.specs.declared.texts.StatusRow.{StatusRow}
 use Rattle.mgmt_lines.specs.Laws.{is_clean}
-use Rattle.mgmt_lines.specs.Texts.{fixed_text, fault_text, addr_text, network_text, mark, fields, seconds, time_text, client_text, route_text, queued_text, load_text, count_text, own_count_text, name_killed_text, name_missing_text, address_killed_text, address_missing_text}
+use Rattle.mgmt_lines.specs.Texts.{addr_text, network_text, mark, seconds, time_text, client_text, route_text, queued_text, load_text, count_text, own_count_text, name_killed_text, name_missing_text, address_killed_text, address_missing_text}
+use Rattle.mgmt_lines.proofs.Passing.{append_passes, both_true, decimal_passes, ip4_passes}
+
+abbrev passes : ℕ → Bool
+passes c = not (is_control c)
 
 -- a text without control bytes, in a form that shows the text
 record Clean (text : List ℕ) : Type 0 where
   ok : is_clean text ≡ true
-
-both_true : (a b : Bool) → a ≡ true → b ≡ true → (a && b) ≡ true
-both_true true b p q = q
-both_true false b p q = cc
 
 given : (text : List ℕ) → is_clean text ≡ true → Clean text
 given text clean = record { ok = clean }
 
 -- two such texts, one behind the other
 join : (xs ys : List ℕ) → Clean xs → Clean ys → Clean (xs ++ ys)
-join xs ys a b = record { ok = list_all-append (λ c. not (is_control c)) xs ys ∙ both_true (is_clean xs) (is_clean ys) a.ok b.ok }
+join xs ys a b = record { ok = append_passes passes xs ys a.ok b.ok }
 
 -- the same with a byte between them
 parted : (xs : List ℕ) (c : ℕ) (ys : List ℕ) → Clean xs → not (is_control c) ≡ true → Clean ys → Clean (xs ++ c ∷ ys)
@@ -42,27 +36,11 @@ parted xs c ys a between b = join xs (c ∷ ys) a (record { ok = both_true (not 
 glyph : (n : ℕ) → not (is_control (digit_glyph false (n % 10))) ≡ true
 glyph n = grind (arith, common_steps)
 
-onto_by : (b : Bool) (xs ys : List ℕ) → is_clean xs ≡ true → is_clean ys ≡ true → is_clean (cond b xs ys) ≡ true
-onto_by true xs ys p q = p
-onto_by false xs ys p q = q
-
-onto : (k n : ℕ) (acc : List ℕ) → is_clean acc ≡ true → is_clean (digits_onto k 10 false n acc) ≡ true
-onto zero n acc clean = clean
-onto (suc k) n acc clean =
-    let next : List ℕ = digit_glyph false (n % 10) ∷ acc in
-    let front : is_clean (digit_glyph false (n % 10) ∷ acc) ≡ true = both_true (not (is_control (digit_glyph false (n % 10)))) (is_clean acc) (glyph n) clean in
-    onto_by (n / 10 == 0) next (digits_onto k 10 false (n / 10) next) front (onto k (n / 10) next front)
-
 number : (n : ℕ) → Clean (decimal n)
-unfolding digits
-number n = record { ok = onto 64 n [] refl }
+number n = record { ok = decimal_passes passes glyph n }
 
 ip4 : (a : Ip4) → Clean (ip4_text a)
-unfolding ip4_text
-ip4 a =
-    parted (decimal (a.0 / 2 ^ 24 % 256)) 46 _ (number (a.0 / 2 ^ 24 % 256)) refl
-    (parted (decimal (a.0 / 2 ^ 16 % 256)) 46 _ (number (a.0 / 2 ^ 16 % 256)) refl
-    (parted (decimal (a.0 / 2 ^ 8 % 256)) 46 _ (number (a.0 / 2 ^ 8 % 256)) refl (number (a.0 % 256))))
+ip4 a = record { ok = ip4_passes passes glyph refl a }
 
 addr : (a : Addr) → Clean (addr_text a)
 unfolding addr_text

@@ -1,15 +1,22 @@
-//! What holds of each line that is written.
+//! What holds of each line that is written, and of what is written of a command.
 
-ghost use Rattle.std.specs.Prelude.{◌≡◌, ℕ, Bool, true, List};
+ghost use Rattle.std.specs.Prelude.{◌≡◌, ℕ, ◌^◌, ◌<◌, ◌≤◌, ◌++◌, Bool, true, List, Ok, codes};
+ghost use Rattle.std.specs.Fmt.{decimal};
 ghost use Rattle.vpn_base.specs.declared.address.Addr.{Addr};
 ghost use Rattle.vpn_base.specs.declared.names.Cid.{Cid};
 ghost use Rattle.vpn_base.specs.declared.names.Moment.{Moment};
+ghost use Rattle.vpn_base.specs.FileName.{is_file_name};
 ghost use Rattle.vpn_base.specs.Network.{Network};
+ghost use Rattle.mgmt_lines.specs.declared.commands.Command.TheVariants.{KillName, KillAddr, ClientKill, Bytecount};
 ghost use Rattle.mgmt_lines.specs.declared.commands.CommandFault.{CommandFault};
 ghost use Rattle.mgmt_lines.specs.declared.fixed.FixedLine.{FixedLine};
 ghost use Rattle.mgmt_lines.specs.declared.texts.StatusRow.{StatusRow};
-ghost use Rattle.mgmt_lines.specs.Texts.{fixed_text, fault_text, time_text, client_text, route_text, queued_text, load_text, count_text, own_count_text, name_killed_text, name_missing_text, address_killed_text, address_missing_text};
+ghost use Rattle.mgmt_lines.specs.Commands.{command};
+ghost use Rattle.mgmt_lines.specs.Texts.{addr_text, fixed_text, fault_text, time_text, client_text, route_text, queued_text, load_text, count_text, own_count_text, name_killed_text, name_missing_text, address_killed_text, address_missing_text};
 ghost use Rattle.mgmt_lines.specs.Laws.{is_clean};
+
+use vpn_base::{reads_decimal_again, reads_ip4_again};
+use vpn_text::reads_words_again;
 
 /// No line that is written has a control byte, so none has a line end within, where the name in it
 /// has none.
@@ -29,3 +36,17 @@ pub fn lines_have_no_control()
     ensures address_killed { (a : Addr) → (count : ℕ) → is_clean (address_killed_text a count) ≡ true }
     ensures address_missing { (a : Addr) → is_clean (address_missing_text a) ≡ true }
 {}
+
+/// What is written of a client's name, of an address with its port, of a client's number and of an
+/// interval is read as that behind its command. So no name that can be a client's is taken for an
+/// address.
+pub fn reads_commands_again()
+    ensures name { (name : List ℕ) → is_file_name name ≡ true → command (codes "kill " ++ name) ≡ Ok (KillName name) }
+    ensures address { (a : Addr) → a.ip.0 < 2 ^ 32 → a.port < 2 ^ 16 → command (codes "kill " ++ addr_text a) ≡ Ok (KillAddr a) }
+    ensures client { (cid : Cid) → cid.0 < 2 ^ 64 → command (codes "client-kill " ++ decimal cid.0) ≡ Ok (ClientKill cid) }
+    ensures interval { (n : ℕ) → n ≤ 86400 → command (codes "bytecount " ++ decimal n) ≡ Ok (Bytecount n) }
+{
+    reads_words_again();
+    reads_ip4_again();
+    reads_decimal_again();
+}

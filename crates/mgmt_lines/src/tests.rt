@@ -251,4 +251,6 @@ fn lines_without_numbers(rt: HostRuntime) {
     for (line, want) in &lines {
         assert_eq!(rt; line.text(), *want);
     }
+    lines_have_no_control();
+    reads_commands_again();
 }
