@@ -12,7 +12,7 @@ use Rattle.vpn_base.specs.Network.{Network}
 use Rattle.vpn_text.specs.Words.{is_control}
 use Rattle.mgmt_lines.specs.declared.texts.StatusRow.{StatusRow}
 use Rattle.mgmt_lines.specs.Laws.{is_clean}
-use Rattle.mgmt_lines.specs.Texts.{addr_text, network_text, mark, seconds, time_text, client_text, route_text, queued_text, load_text, count_text, own_count_text, name_killed_text, name_missing_text, address_killed_text, address_missing_text}
+use Rattle.mgmt_lines.specs.Texts.{addr_text, network_text, mark, seconds, time_text, client_text, route_text, queued_text, load_text, count_text, own_count_text, name_killed_text, name_not_found_text, address_killed_text, address_not_found_text}
 use Rattle.mgmt_lines.proofs.Passing.{append_passes, both_true, decimal_passes, ip4_passes}
 
 abbrev passes : ℕ → Bool
@@ -117,9 +117,9 @@ name_killed name n clean =
     (join _ (codes "' found, ") (join (codes "SUCCESS: common name '") name (record { ok = refl }) (given name clean)) (record { ok = refl }))
     (number n)) (record { ok = refl })).ok
 
-pub name_missing : (name : List ℕ) → is_clean name ≡ true → is_clean (name_missing_text name) ≡ true
-unfolding name_missing_text
-name_missing name clean =
+pub name_not_found : (name : List ℕ) → is_clean name ≡ true → is_clean (name_not_found_text name) ≡ true
+unfolding name_not_found_text
+name_not_found name clean =
     (join _ (codes "' not found") (join (codes "ERROR: common name '") name (record { ok = refl }) (given name clean)) (record { ok = refl })).ok
 
 pub address_killed : (a : Addr) (n : ℕ) → is_clean (address_killed_text a n) ≡ true
@@ -130,7 +130,7 @@ address_killed a n =
     (join _ (codes " client(s) at address ") (join (codes "SUCCESS: ") (decimal n) (record { ok = refl }) (number n)) (record { ok = refl }))
     (addr a)) (record { ok = refl })).ok
 
-pub address_missing : (a : Addr) → is_clean (address_missing_text a) ≡ true
-unfolding address_missing_text
-address_missing a =
+pub address_not_found : (a : Addr) → is_clean (address_not_found_text a) ≡ true
+unfolding address_not_found_text
+address_not_found a =
     (join _ (codes " not found") (join (codes "ERROR: client at address ") (addr_text a) (record { ok = refl }) (addr a)) (record { ok = refl })).ok

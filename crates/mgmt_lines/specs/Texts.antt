@@ -90,8 +90,8 @@ name_killed_text name count =
     codes "SUCCESS: common name '" ++ name ++ codes "' found, " ++ decimal count ++ codes " client(s) killed"
 
 -- no client has the name
-unfoldable pub name_missing_text : List ℕ → List ℕ
-name_missing_text name = codes "ERROR: common name '" ++ name ++ codes "' not found"
+unfoldable pub name_not_found_text : List ℕ → List ℕ
+name_not_found_text name = codes "ERROR: common name '" ++ name ++ codes "' not found"
 
 -- so many clients at an address were ended
 unfoldable pub address_killed_text : Addr → ℕ → List ℕ
@@ -99,5 +99,5 @@ address_killed_text a count =
     codes "SUCCESS: " ++ decimal count ++ codes " client(s) at address " ++ addr_text a ++ codes " killed"
 
 -- no client is at the address
-unfoldable pub address_missing_text : Addr → List ℕ
-address_missing_text a = codes "ERROR: client at address " ++ addr_text a ++ codes " not found"
+unfoldable pub address_not_found_text : Addr → List ℕ
+address_not_found_text a = codes "ERROR: client at address " ++ addr_text a ++ codes " not found"

@@ -12,7 +12,7 @@ ghost use Rattle.mgmt_lines.specs.declared.commands.CommandFault.{CommandFault};
 ghost use Rattle.mgmt_lines.specs.declared.fixed.FixedLine.{FixedLine};
 ghost use Rattle.mgmt_lines.specs.declared.texts.StatusRow.{StatusRow};
 ghost use Rattle.mgmt_lines.specs.Commands.{command};
-ghost use Rattle.mgmt_lines.specs.Texts.{addr_text, fixed_text, fault_text, time_text, client_text, route_text, queued_text, load_text, count_text, own_count_text, name_killed_text, name_missing_text, address_killed_text, address_missing_text};
+ghost use Rattle.mgmt_lines.specs.Texts.{addr_text, fixed_text, fault_text, time_text, client_text, route_text, queued_text, load_text, count_text, own_count_text, name_killed_text, name_not_found_text, address_killed_text, address_not_found_text};
 ghost use Rattle.mgmt_lines.specs.Laws.{is_clean};
 
 use vpn_base::{reads_decimal_again, reads_ip4_again};
@@ -32,9 +32,9 @@ pub fn lines_have_no_control()
     ensures count { (cid : Cid) → (bytes_in bytes_out : ℕ) → is_clean (count_text cid bytes_in bytes_out) ≡ true }
     ensures own_count { (bytes_in bytes_out : ℕ) → is_clean (own_count_text bytes_in bytes_out) ≡ true }
     ensures name_killed { (name : List ℕ) → (count : ℕ) → is_clean name ≡ true → is_clean (name_killed_text name count) ≡ true }
-    ensures name_missing { (name : List ℕ) → is_clean name ≡ true → is_clean (name_missing_text name) ≡ true }
+    ensures name_not_found { (name : List ℕ) → is_clean name ≡ true → is_clean (name_not_found_text name) ≡ true }
     ensures address_killed { (a : Addr) → (count : ℕ) → is_clean (address_killed_text a count) ≡ true }
-    ensures address_missing { (a : Addr) → is_clean (address_missing_text a) ≡ true }
+    ensures address_not_found { (a : Addr) → is_clean (address_not_found_text a) ≡ true }
 {}
 
 /// What is written of a client's name, of an address with its port, of a client's number and of an

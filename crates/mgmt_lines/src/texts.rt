@@ -3,7 +3,7 @@
 ghost use Rattle.std.specs.Prelude.{◌≡◌, ◌∷◌, [], ◌++◌, codes, IfOk, OnOk};
 ghost use Rattle.std.specs.Fmt.{decimal};
 ghost use Rattle.vpn_base.specs.Address.{ip4_text};
-ghost use Rattle.mgmt_lines.specs.Texts.{addr_text, network_text, mark, seconds, time_text, client_text, route_text, queued_text, load_text, count_text, own_count_text, name_killed_text, name_missing_text, address_killed_text, address_missing_text};
+ghost use Rattle.mgmt_lines.specs.Texts.{addr_text, network_text, mark, seconds, time_text, client_text, route_text, queued_text, load_text, count_text, own_count_text, name_killed_text, name_not_found_text, address_killed_text, address_not_found_text};
 
 use itoa::Buffer;
 use std::alloc::Global;
@@ -228,9 +228,9 @@ pub fn name_killed(alloc: Global, name: &[u8], count: u64) -> Result<Text, NoMem
 }
 
 /// No client has the name: `ERROR: common name 'NAME' not found`.
-#[tactic(auto, unfolding(crate::specs::Texts::name_missing_text))]
+#[tactic(auto, unfolding(crate::specs::Texts::name_not_found_text))]
 pub fn name_not_found(alloc: Global, name: &[u8]) -> Result<Text, NoMemory>
-    ensures { IfOk result (λ t. t ≡ name_missing_text name.now) }
+    ensures { IfOk result (λ t. t ≡ name_not_found_text name.now) }
 {
     let mut text = Vec::from_slice(alloc, b"ERROR: common name '")?;
     text.extend_from_slice(name)?;
@@ -252,9 +252,9 @@ pub fn address_killed(alloc: Global, a: Addr, count: u64) -> Result<Text, NoMemo
 }
 
 /// No client is at the address: `ERROR: client at address IP:PORT not found`.
-#[tactic(auto, unfolding(crate::specs::Texts::address_missing_text))]
+#[tactic(auto, unfolding(crate::specs::Texts::address_not_found_text))]
 pub fn address_not_found(alloc: Global, a: Addr) -> Result<Text, NoMemory>
-    ensures { IfOk result (λ t. t ≡ address_missing_text a) }
+    ensures { IfOk result (λ t. t ≡ address_not_found_text a) }
 {
     let mut text = Vec::from_slice(alloc, b"ERROR: client at address ")?;
     add_addr(&mut text, a)?;

@@ -25,11 +25,11 @@ returns-clause-own_count c = lines.own_count
 pub returns-clause-name_killed : goal.returns-clause-name_killed
 returns-clause-name_killed c = lines.name_killed
 
-pub returns-clause-name_missing : goal.returns-clause-name_missing
-returns-clause-name_missing c = lines.name_missing
+pub returns-clause-name_not_found : goal.returns-clause-name_not_found
+returns-clause-name_not_found c = lines.name_not_found
 
 pub returns-clause-address_killed : goal.returns-clause-address_killed
 returns-clause-address_killed c = lines.address_killed
 
-pub returns-clause-address_missing : goal.returns-clause-address_missing
-returns-clause-address_missing c = lines.address_missing
+pub returns-clause-address_not_found : goal.returns-clause-address_not_found
+returns-clause-address_not_found c = lines.address_not_found
