@@ -1,5 +1,5 @@
 -- A run with one more event at its end.
-use Rattle.std.proofs.Common.{◌≡◌, ℕ, suc, ◌+◌, Bool, List, [], ◌∷◌, ◌++◌, length, refl, ap, ◌∙◌, arith}
+use Rattle.std.proofs.Common.{◌≡◌, suc, ◌+◌, Bool, List, [], ◌∷◌, ◌++◌, length, refl, ap, arith}
 use Rattle.vpn_links.specs.Actions.{Action}
 use Rattle.vpn_links.specs.Steps.{Lack}
 use Rattle.vpn_links.specs.declared.events.Event.{Event}

@@ -1,9 +1,9 @@
 -- What a turn comes to, and a run.
-use Rattle.std.proofs.Common.{◌≡◌, ℕ, suc, ◌+◌, ◌<◌, ◌≤◌, ◌^◌, Bool, true, false, List, [], ◌∷◌, ◌++◌, length, take, refl, ap, sym, ◌∙◌, subst, arith, take_all, le_refl, Option, Some, None, IsTrue, length-append, map}
+use Rattle.std.proofs.Common.{◌≡◌, ℕ, ◌+◌, ◌<◌, Bool, true, false, List, [], ◌∷◌, ◌++◌, length, take, refl, ap, sym, ◌∙◌, subst, arith, take_all, Some, length-append}
 use Rattle.std.proofs.lemmas.List.{map-append, append-nil}
 use Rattle.std.proofs.Common.{append_assoc}
 use Rattle.vpn_links.specs.Actions.{Action, Contents}
-use Rattle.vpn_links.specs.Rounds.{Given, Round, came}
+use Rattle.vpn_links.specs.Rounds.{Round, came}
 use Rattle.vpn_links.specs.Steps.{Lack}
 use Rattle.vpn_links.specs.declared.events.Event.{Event}
 use Rattle.vpn_links.specs.declared.links.LinkFault.{LinkFault}
@@ -11,8 +11,8 @@ use Rattle.vpn_node.specs.declared.outcome.Outcome.{Outcome}
 use Rattle.vpn_node.specs.declared.outcome.Outcome.TheVariants as outcomes
 use Rattle.vpn_node.specs.declared.outcome.Ran.{Ran}
 use Rattle.vpn_node.specs.declared.run.Tally.{Tally}
-use Rattle.vpn_node.specs.Running.{BrokeOff, Between, Ends, Entry, RunOver, Within, actions_of, after_all, came_in, capped, count_last, cut_last, events_of, given_in, goes_on, lost_by, lost_of, outs_at, outs_lacking, refused_by, refused_lacking, run, stops, stops_last, stops_only_last}
-use Rattle.vpn_node.specs.internal.Turns.{Gave, GaveFirst, Going, IsBreak, NoEvent, Course, NotAll, TookNone, TookPart, TookStep, TookTurn, TookWhole, Turned, end_of}
+use Rattle.vpn_node.specs.Running.{BrokeOff, Between, Ends, Entry, RunOver, Within, actions_of, after_all, capped, count_last, cut_last, given_in, goes_on, lost_by, lost_of, outs_at, refused_by, refused_lacking, run, stops, stops_last, stops_only_last}
+use Rattle.vpn_node.specs.internal.Turns.{Gave, GaveFirst, Going, IsBreak, NoEvent, Course, NotAll, TookPart, TookStep, TookTurn, TookWhole, Turned, end_of}
 use Rattle.vpn_node.proofs.Behind.{after_one, may_one, refused_one, run_length, run_one}
 use Rattle.vpn_node.proofs.Lists.{capped_on, counted_last, cut_behind, ends_last, ends_only_last, lost_round, onward_one, wires_round}
 
@@ -239,10 +239,11 @@ run_ended next effects may_lack Stands_before Stands Begun Before Told t turns b
     let o = outs_at effects (after_all next t g.course.entries) k.turn.entry in
     let one = run_one next effects t g.course.entries k.turn.entry in
     run_over next effects may_lack Stands Begun Told t turns now outcomes.Stopped ran is
-    (longer next effects may_lack Stands_before Stands Begun Before Told t before now g.course k.turn)
-    (given_whole next effects may_lack Stands_before Stands Begun Before Told t before now true g k,
-    ap stops_last one ∙ ends_last outs o g.onward k.stopping,
-    omega (arith, ap length one, length-append outs (o ∷ []), run_length next effects t g.course.entries, g.course.events, within))
+    (longer next effects may_lack Stands_before Stands Begun Before Told t before now g.course k.turn) (
+      given_whole next effects may_lack Stands_before Stands Begun Before Told t before now true g k,
+      ap stops_last one ∙ ends_last outs o g.onward k.stopping,
+      omega (arith, ap length one, length-append outs (o ∷ []), run_length next effects t g.course.entries, g.course.events, within),
+    )
 run_ended next effects may_lack Stands_before Stands Begun Before Told t turns before now outcomes.TurnsSpent ran is within g never = absurd never
 run_ended next effects may_lack Stands_before Stands Begun Before Told t turns before now (outcomes.Fault fault) ran is within g part =
     broken next effects may_lack Stands_before Stands Begun Before Told t turns before now (outcomes.Fault fault) ran is within (λ outs given off. off) g part

@@ -1,15 +1,13 @@
 -- Lists with one more element at their end.
-use Rattle.std.proofs.Common.{◌≡◌, ℕ, zero, suc, ◌+◌, ◌-◌, ◌^◌, ◌<◌, ◌≤◌, min, Bool, true, false, List, [], ◌∷◌, ◌++◌, length, take, map, refl, ap, sym, ◌∙◌, arith, slice_get, ◌||◌, ◌&&◌, not, IsTrue, IsFalse, Some, None, unwrap_or}
+use Rattle.std.proofs.Common.{◌≡◌, ℕ, zero, suc, ◌+◌, Bool, true, false, List, [], ◌∷◌, ◌++◌, length, take, refl, ap, sym, ◌∙◌, arith, slice_get, ◌||◌, ◌&&◌, not, IsTrue, Some, unwrap_or}
 use Rattle.std.specs.List.{list_any}
-use Rattle.std.proofs.lemmas.List.{map-append}
 use Rattle.std.proofs.lemmas.List.Folds.{list_any-append}
 use Rattle.std.proofs.lemmas.Option.{none-some}
 use Rattle.std.proofs.lemmas.Bool.{false≢true}
-
 use Rattle.vpn_links.specs.Actions.{Action}
 use Rattle.vpn_links.specs.Rounds.{Given, Round, gave}
 use Rattle.vpn_links.specs.declared.events.Event.{Event}
-use Rattle.vpn_node.specs.Running.{OnlyWireLost, OnlyWiresLost, capped, count_last, cut_last, goes_on, is_not_learned, is_stop, lost_by, lost_of, not_learned, one_if, stops, stops_last, stops_only_last}
+use Rattle.vpn_node.specs.Running.{OnlyWireLost, OnlyWiresLost, capped, count_last, cut_last, goes_on, is_not_learned, lost_by, lost_of, not_learned, one_if, stops, stops_last, stops_only_last}
 
 -- ---- of any list
 

@@ -1,12 +1,12 @@
 -- One event: its step, and the giving of its effects.
-use Rattle.std.proofs.Common.{◌≡◌, ℕ, zero, suc, ◌+◌, ◌^◌, ◌<◌, Bool, true, false, List, [], ◌∷◌, ◌++◌, length, take, refl, ap, sym, ◌∙◌, subst, arith, take_all, le_refl, slice_get, Some, IsTrue, Option, None}
-use Rattle.std.proofs.lemmas.List.{map-append, append-nil}
-use Rattle.vpn_links.specs.Actions.{Action, Contents, Holds, is_wire}
-use Rattle.vpn_links.specs.Rounds.{Given, Round, gave}
-use Rattle.vpn_links.specs.Steps.{Lack, LacksAll, LacksHost, LacksNothing, Stepped}
+use Rattle.std.proofs.Common.{◌≡◌, ℕ, ◌+◌, ◌^◌, ◌<◌, Bool, true, false, List, [], ◌∷◌, ◌++◌, length, refl, ap, sym, ◌∙◌, subst, arith, slice_get, Some}
+use Rattle.std.proofs.lemmas.List.{map-append}
+use Rattle.vpn_links.specs.Actions.{Action, Contents}
+use Rattle.vpn_links.specs.Rounds.{Given, Round}
+use Rattle.vpn_links.specs.Steps.{Lack, LacksHost, LacksNothing, Stepped}
 use Rattle.vpn_links.specs.declared.events.Event.{Event}
-use Rattle.vpn_node.specs.Running.{actions_of, capped, lost_of, not_learned, one_if, OnlyWireLost, outs_lacking}
-use Rattle.vpn_node.specs.internal.Turns.{Gave, GaveAlso, GaveFirst, GaveNone, TookStep}
+use Rattle.vpn_node.specs.Running.{capped, lost_of, not_learned, one_if}
+use Rattle.vpn_node.specs.internal.Turns.{GaveAlso, GaveFirst, GaveNone, TookStep}
 use Rattle.vpn_node.proofs.Lists.{capped_on, gave_behind, lost_one, take_next, wires_one}
 
 took_lacking : {T : Type 0} (next : Bool → T → Event → T) (effects : Bool → T → Event → List Action) (may_lack : T → Event → Lack → Type 0)
@@ -67,10 +67,14 @@ gave_more i actions action Begun Before Told lost_begun lost_before lost at g on
 pub gave_part : (i : ℕ) (actions : List Action) (action : Action) (Begun Before Told : List Round → Type 0) (lost_begun lost_before lost : ℕ) →
     i < length actions → GaveFirst i actions Begun Before lost_begun lost_before → GaveNone Before Told lost_before lost →
     (n : ℕ) × (n < length actions) × GaveFirst n actions Begun Told lost_begun lost
-gave_part i actions action Begun Before Told lost_begun lost_before lost within g none = (i, within, record {
-  given = g.given;
-  same = g.same;
-  wires = g.wires;
-  told = λ rounds event before. none.told (rounds ++ record { event = event; effects = g.given } ∷ []) (g.told rounds event before);
-  counted = none.counted ∙ g.counted;
-})
+gave_part i actions action Begun Before Told lost_begun lost_before lost within g none = (
+  i,
+  within,
+  record {
+    given = g.given;
+    same = g.same;
+    wires = g.wires;
+    told = λ rounds event before. none.told (rounds ++ record { event = event; effects = g.given } ∷ []) (g.told rounds event before);
+    counted = none.counted ∙ g.counted;
+  },
+)

@@ -1,5 +1,5 @@
 -- A run of a core over its outside: events one after the other, of which some may find no memory, and what was given of their effects.
-use Rattle.std.specs.Prelude.{◌≡◌, ℕ, ◌+◌, ◌-◌, ◌^◌, ◌<◌, ◌≤◌, ◌&&◌, min, Bool, true, false, not, List, [], ◌∷◌, ◌++◌, length, take, map, IsTrue, IsFalse, if◌then◌else◌}
+use Rattle.std.specs.Prelude.{◌≡◌, ℕ, ◌+◌, ◌-◌, ◌^◌, ◌<◌, ◌≤◌, ◌&&◌, min, Bool, true, false, not, List, [], ◌∷◌, ◌++◌, length, take, map, IsTrue}
 use Rattle.std.specs.List.{list_any}
 use Rattle.vpn_base.specs.Answers.{Rose}
 use Rattle.vpn_links.specs.Actions.{Action, Report, Stop, is_wire}

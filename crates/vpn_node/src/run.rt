@@ -152,11 +152,7 @@ fn outcome_of(fault: Or<LinkFault>) -> Outcome
 fn end_of(stops: bool) -> Option<Outcome>
     ensures { result ≡ end_of stops }
 {
-    if stops {
-        Some(Outcome::Stopped)
-    } else {
-        None
-    }
+    if stops { Some(Outcome::Stopped) } else { None }
 }
 
 // One turn: an event, its step, and its effects.

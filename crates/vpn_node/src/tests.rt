@@ -1,6 +1,8 @@
 //! Cores of three kinds, run against links in memory.
 
-ghost use Rattle.std.specs.Prelude.{[], ◌∷◌};
+ghost use Rattle.std.specs.Prelude.{◌≡◌, [], ◌∷◌};
+ghost use Rattle.vpn_links.specs.Rounds.{IsOfLine};
+ghost use Rattle.vpn_links.specs.declared.events.Kind.TheVariants.{Tick};
 ghost use Rattle.vpn_links.specs.Actions.{Stop, Wire};
 
 use super::*;
@@ -40,6 +42,8 @@ impl Machine for Stopping {
 struct Sending;
 
 impl Machine for Sending {
+    ghost use Rattle.vpn_node.specs.declared.tests.TheConstants.{PEER};
+
     ghost Table = { Unit {0} };
 
     ghost stands = { λ _ _. Unit {0} };
@@ -75,7 +79,8 @@ impl Machine for Lacking {
     ghost may_lack = { λ _ _ _. Unit {0} };
 
     fn step(&mut self, event: &Event, out: &mut Outbox) -> Result<(), NoMemory> {
-        let _ = (event, out);
+        let _ = event;
+        out.cut(out.count(), 0);
         Err(NoMemory)
     }
 }
@@ -95,16 +100,19 @@ fn plan(alloc: Global) -> Result<Plan, NoMemory> {
     })
 }
 
+fn tick(at: u64) -> Event
+    ensures { result.kind ≡ Tick }
+{
+    Event {
+        now: Moment(at),
+        draw: Draw([0; 120]),
+        kind: Kind::Tick,
+    }
+}
+
 // Links with five ticks, of which one call fails.
 fn ticks(alloc: Global, call: u64, fault: LinkFault) -> Result<MemLinks, NoMemory> {
-    let mut events = Vec::new(alloc);
-    for i in 0..5u64 {
-        events.push(Event {
-            now: Moment(i),
-            draw: Draw([0; 120]),
-            kind: Kind::Tick,
-        })?;
-    }
+    let events = Vec::from_array(alloc, [tick(0), tick(1), tick(2), tick(3), tick(4)])?;
     let mut failing = Vec::new(alloc);
     failing.push((call, fault))?;
     Ok(MemLinks::new(alloc, events, failing)?)
@@ -134,7 +142,15 @@ fn a_refused_start_and_a_core_that_stops(rt: HostRuntime) -> Result<(), Fail> {
     let (refused, links) = drive(alloc, Stopping, links, 5)?;
     assert!(rt; matches!(refused, Err(Or::Why(LinkFault::Engine))));
     let (ran, links) = drive(alloc, Stopping, links, 5)?;
-    assert_eq!(rt; ran, Ok(Ran { outcome: Outcome::Stopped, events: 1, lost: 0, refused: 0 }));
+    assert_eq!(rt;
+        ran,
+        Ok(Ran {
+            outcome: Outcome::Stopped,
+            events: 1,
+            lost: 0,
+            refused: 0
+        })
+    );
     assert!(rt; matches!(links.effect_given(0, 0), Some((Effect::Stop, false))));
     Ok(())
 }
@@ -143,11 +159,27 @@ fn a_refused_start_and_a_core_that_stops(rt: HostRuntime) -> Result<(), Fail> {
 fn a_lost_datagram_and_a_fault(rt: HostRuntime) -> Result<(), Fail> {
     let alloc = rt.alloc();
     let (ran, links) = drive(alloc, Sending, ticks(alloc, 2, LinkFault::Wire)?, 3)?;
-    assert_eq!(rt; ran, Ok(Ran { outcome: Outcome::TurnsSpent, events: 3, lost: 1, refused: 0 }));
+    assert_eq!(rt;
+        ran,
+        Ok(Ran {
+            outcome: Outcome::TurnsSpent,
+            events: 3,
+            lost: 1,
+            refused: 0
+        })
+    );
     assert!(rt; matches!(links.effect_given(0, 0), Some((Effect::Wire { .. }, true))));
     assert!(rt; matches!(links.effect_given(2, 0), Some((Effect::Wire { .. }, false))));
     let (ran, links) = drive(alloc, Sending, ticks(alloc, 4, LinkFault::Device)?, 3)?;
-    assert_eq!(rt; ran, Ok(Ran { outcome: Outcome::Fault(LinkFault::Device), events: 2, lost: 0, refused: 0 }));
+    assert_eq!(rt;
+        ran,
+        Ok(Ran {
+            outcome: Outcome::Fault(LinkFault::Device),
+            events: 2,
+            lost: 0,
+            refused: 0
+        })
+    );
     assert_eq!(rt; links.events_given(), 2);
     Ok(())
 }
@@ -156,7 +188,15 @@ fn a_lost_datagram_and_a_fault(rt: HostRuntime) -> Result<(), Fail> {
 fn want_of_memory_is_reported(rt: HostRuntime) -> Result<(), Fail> {
     let alloc = rt.alloc();
     let (ran, links) = drive(alloc, Lacking, ticks(alloc, 9, LinkFault::Random)?, 2)?;
-    assert_eq!(rt; ran, Ok(Ran { outcome: Outcome::TurnsSpent, events: 2, lost: 0, refused: 2 }));
+    assert_eq!(rt;
+        ran,
+        Ok(Ran {
+            outcome: Outcome::TurnsSpent,
+            events: 2,
+            lost: 0,
+            refused: 2
+        })
+    );
     assert!(rt; matches!(links.effect_given(1, 0), Some((Effect::Report(_), false))));
     Ok(())
 }

@@ -1,5 +1,5 @@
-use Rattle.std.proofs.Common.{◌+◌, ◌∙◌, refl, arith}
-use Rattle.vpn_node.proofs.Ends.{course_begun, course_on, run_ended, turns_spent}
+use Rattle.std.proofs.Common.{◌∙◌, refl, arith}
+use Rattle.vpn_node.proofs.Ends.{course_begun, course_on, run_ended}
 use Rattle.vpn_node.proofs.run.run_turns.Goals as goal
 
 pub loop-tally-init : goal.loop-tally-init

@@ -1,5 +1,4 @@
-use Rattle.std.proofs.Common.{◌+◌, Some, refl}
-use Rattle.vpn_node.specs.internal.Turns.{end_of}
+use Rattle.std.proofs.Common.{◌+◌, refl}
 use Rattle.vpn_node.proofs.Ends.{turn_broken, turn_whole}
 use Rattle.vpn_node.proofs.run.take_turn.Goals as goal
 
