@@ -5,12 +5,14 @@ use Rattle.vpn_base.specs.declared.names.Role.TheVariants.{Server, Client}
 use Rattle.gcm_seal.specs.AnyGcm.{key_of}
 use Rattle.gcm_seal.specs.declared.gcm.AnyGcm.{AnyGcm}
 use Rattle.gcm_seal.specs.Gcm.{gcm}
+use Rattle.packet_ids.specs.Freshness.{History}
 use Rattle.packet_ids.specs.Window.{Stands}
+use Rattle.peer_table.specs.KeySessions.{Keys}
 use Rattle.sealed_packet.specs.SealedPacket.{Sealing}
 use Rattle.data_channel.specs.declared.channel.DataChannel.{DataChannel}
 use Rattle.data_channel.specs.declared.channel.DataFault.{DataFault}
 use Rattle.data_channel.specs.declared.channel.DataFault.TheVariants.{NotSealed, Stale}
-use Rattle.data_channel.specs.Channels.{Channel, Direction}
+use Rattle.data_channel.specs.Channels.{Channel, Direction, channel_of}
 
 -- the one for this role
 abbrev pub by_role : {X : Type 0} → X → X → Role → X
@@ -31,9 +33,18 @@ pub record IsChannelOf {C : Type 0} (seals : C → Sealing) (channel : DataChann
 unfoldable pub ChannelStands : {C : Type 0} → (C → Sealing) → DataChannel C → Channel → Type 0
 ChannelStands seals channel c = IsChannelOf seals channel c
 
+-- the same for the channel of a session's keys and key id, whatever the role that it was made with: everything of the other end that
+-- was accepted, and the last id sealed
+abbrev pub KeysStand : {C : Type 0} → (C → Sealing) → DataChannel C → Keys → ℕ → History → ℕ → Type 0
+KeysStand seals channel keys kid received sealed = ChannelStands seals channel (channel_of channel.role keys kid received sealed)
+
 -- the same for a cipher that negotiation finds
 abbrev pub GcmStands : DataChannel AnyGcm → Channel → Type 0
 GcmStands channel c = ChannelStands (λ g. gcm (key_of g)) channel c
+
+-- the same for the channel of a session's keys
+abbrev pub GcmKeysStand : DataChannel AnyGcm → Keys → ℕ → History → ℕ → Type 0
+GcmKeysStand channel keys kid received sealed = KeysStand (λ g. gcm (key_of g)) channel keys kid received sealed
 
 -- the length of the inner packet, which stands behind the first 24 bytes, or the refusal
 abbrev pub TellsInner : Result ℕ DataFault → List ℕ → Result (List ℕ) DataFault → Type 0

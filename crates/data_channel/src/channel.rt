@@ -4,11 +4,12 @@ ghost use Rattle.std.specs.Prelude.{◌≡◌, ◌↔◌, ◌≤◌, ◌<◌, �
 ghost use Rattle.vpn_base.specs.declared.names.Role.{Role};
 ghost use Rattle.packet_ids.specs.Freshness.{History, begun, freshness, greatest_id};
 ghost use Rattle.packet_ids.specs.Window.{Stands};
+ghost use Rattle.peer_table.specs.DataPackets.{opened_under, sealed_under};
 ghost use Rattle.peer_table.specs.KeySessions.{Keys};
 ghost use Rattle.peer_table.specs.Peer.{other};
-ghost use Rattle.data_channel.specs.Channels.{Channel, answer_judged, answer_to, channel_of, next_packet, next_packet_of, opened_by, opened_of, received_judged, with_opened, with_sealed};
+ghost use Rattle.data_channel.specs.Channels.{Channel, answer_judged, answer_to, channel_of, next_packet, next_packet_of, opened_by, opened_of, received_after, received_judged, with_opened, with_sealed};
 ghost use Rattle.data_channel.specs.declared.channel.DataFault.TheVariants.{Stale};
-ghost use Rattle.data_channel.specs.Standing.{ChannelStands, GcmStands, IsUnchanged, ShowsInner, TellsInner};
+ghost use Rattle.data_channel.specs.Standing.{ChannelStands, GcmKeysStand, GcmStands, IsUnchanged, KeysStand, ShowsInner, TellsInner};
 
 use crate::keys::{Sealer, by_role, other, sealer_for};
 use gcm_seal::{Aead, AnyGcm, NotSealed};
@@ -138,8 +139,10 @@ impl DataChannel<AnyGcm> {
     ) -> DataChannel<AnyGcm>
         requires kid { kid < 8 }
         requires peer_id { peer_id < 2 ^ 24 }
-        ensures { (received : History) → Stands window received →
+        ensures stands { (received : History) → Stands window received →
             GcmStands result (channel_of role (record { block = keys.now.0; cipher = cipher; peer_id = peer_id }) kid received 0) }
+        ensures keys { (received : History) → Stands window received →
+            GcmKeysStand result (record { block = keys.now.0; cipher = cipher; peer_id = peer_id }) kid received 0 }
     {
         DataChannel::resumed(keys, cipher, role, kid, peer_id, window, 0)
     }
@@ -157,8 +160,9 @@ impl DataChannel<AnyGcm> {
     ) -> DataChannel<AnyGcm>
         requires kid { kid < 8 }
         requires peer_id { peer_id < 2 ^ 24 }
-        ensures { (received : History) → Stands window received →
+        ensures stands { (received : History) → Stands window received →
             GcmStands result (channel_of role (record { block = keys.now.0; cipher = cipher; peer_id = peer_id }) kid received last_sealed) }
+        ensures role { result.role ≡ role }
     {
         DataChannel {
             role,
@@ -179,27 +183,47 @@ impl<C: Aead + Drop> DataChannel<C> {
         requires short { length inner.now ≤ 65512 }
         requires room { length inner.now + 24 ≤ length out.old }
         ensures size { IfOk result (λ n. n ≡ length inner.now + 24) }
-        ensures written { IfOk result (λ n. (c : Channel) → ChannelStands C.sealed self.old c → take n out.new ≡ next_packet c inner.now) }
+        ensures written { (c : Channel) → ChannelStands C.sealed self.old c → IfOk result (λ n. take n out.new ≡ next_packet c inner.now) }
         ensures rest { IfOk result (λ n. drop n out.new ≡ drop n out.old) }
-        ensures sealed { OnOk result ((c : Channel) → ChannelStands C.sealed self.old c → ChannelStands C.sealed self.new (with_sealed c)) }
-        ensures kept { OnErr result ((c : Channel) → ChannelStands C.sealed self.old c → ChannelStands C.sealed self.new c) }
+        ensures sealed { (c : Channel) → ChannelStands C.sealed self.old c → OnOk result (ChannelStands C.sealed self.new (with_sealed c)) }
+        ensures kept { (c : Channel) → ChannelStands C.sealed self.old c → OnErr result (ChannelStands C.sealed self.new c) }
         ensures unchanged { OnErr result (out.new ≡ out.old) }
         ensures spent { (c : Channel) → ChannelStands C.sealed self.old c → IsErr result ↔ (c.sealed ≡ 2 ^ 32 - 1) }
     {
-        self.seal_as(self.role, inner, out)
+        self.seal_of(self.role, inner, out)
     }
 
-    /// The same as an end of this role, whatever the role that the channel was made with.
-    #[tactic(auto, unfolding(crate::specs::Standing::ChannelStands, crate::specs::Channels::next_packet_of))]
+    /// The same for a session's keys, as an end of this role, whatever the role that the channel was made with.
     pub fn seal_as(&mut self, role: Role, inner: &[u8], out: &mut [u8]) -> Result<usize, Spent>
         requires short { length inner.now ≤ 65512 }
         requires room { length inner.now + 24 ≤ length out.old }
         ensures size { IfOk result (λ n. n ≡ length inner.now + 24) }
-        ensures written { IfOk result (λ n. (c : Channel) → ChannelStands C.sealed self.old c → take n out.new ≡ next_packet_of role c inner.now) }
+        ensures written { (keys : Keys) (kid : ℕ) (received : History) (sealed : ℕ) → KeysStand C.sealed self.old keys kid received sealed →
+            IfOk result (λ n. take n out.new ≡ sealed_under role keys kid (sealed + 1) inner.now) }
         ensures rest { IfOk result (λ n. drop n out.new ≡ drop n out.old) }
-        ensures sealed { OnOk result ((c : Channel) → ChannelStands C.sealed self.old c → ChannelStands C.sealed self.new (with_sealed c)) }
-        ensures kept { OnErr result ((c : Channel) → ChannelStands C.sealed self.old c → ChannelStands C.sealed self.new c) }
+        ensures sealed { (keys : Keys) (kid : ℕ) (received : History) (sealed : ℕ) → KeysStand C.sealed self.old keys kid received sealed →
+            OnOk result (KeysStand C.sealed self.new keys kid received (sealed + 1)) }
+        ensures kept { (keys : Keys) (kid : ℕ) (received : History) (sealed : ℕ) → KeysStand C.sealed self.old keys kid received sealed →
+            OnErr result (KeysStand C.sealed self.new keys kid received sealed) }
         ensures unchanged { OnErr result (out.new ≡ out.old) }
+        ensures spent { (keys : Keys) (kid : ℕ) (received : History) (sealed : ℕ) → KeysStand C.sealed self.old keys kid received sealed →
+            IsErr result ↔ (sealed ≡ 2 ^ 32 - 1) }
+    {
+        self.seal_of(role, inner, out)
+    }
+
+    // The same as an end of this role.
+    #[tactic(auto, unfolding(crate::specs::Standing::ChannelStands, crate::specs::Channels::next_packet_of))]
+    fn seal_of(&mut self, role: Role, inner: &[u8], out: &mut [u8]) -> Result<usize, Spent>
+        requires short { length inner.now ≤ 65512 }
+        requires room { length inner.now + 24 ≤ length out.old }
+        ensures size { IfOk result (λ n. n ≡ length inner.now + 24) }
+        ensures written { (c : Channel) → ChannelStands C.sealed self.old c → IfOk result (λ n. take n out.new ≡ next_packet_of role c inner.now) }
+        ensures rest { IfOk result (λ n. drop n out.new ≡ drop n out.old) }
+        ensures sealed { (c : Channel) → ChannelStands C.sealed self.old c → OnOk result (ChannelStands C.sealed self.new (with_sealed c)) }
+        ensures kept { (c : Channel) → ChannelStands C.sealed self.old c → OnErr result (ChannelStands C.sealed self.new c) }
+        ensures unchanged { OnErr result (out.new ≡ out.old) }
+        ensures role { self.new.role ≡ self.old.role }
         ensures spent { (c : Channel) → ChannelStands C.sealed self.old c → IsErr result ↔ (c.sealed ≡ 2 ^ 32 - 1) }
     {
         match self.ids.next() {
@@ -237,12 +261,34 @@ impl<C: Aead + Drop> DataChannel<C> {
         ensures front { take 24 datagram.new ≡ take 24 datagram.old }
         ensures length { length datagram.new ≡ length datagram.old }
     {
-        self.unseal_as(self.role, datagram, now)
+        self.unseal_of(self.role, datagram, now)
     }
 
-    /// The same as an end of this role, whatever the role that the channel was made with.
-    #[tactic(auto, unfolding(crate::specs::Standing::ChannelStands, crate::specs::Channels::opened_of))]
+    /// The same for a session's keys, as an end of this role, whatever the role that the channel was made with.
     pub fn unseal_as(
+        &mut self,
+        role: Role,
+        datagram: &mut [u8],
+        now: Moment,
+    ) -> Result<usize, DataFault>
+        requires short { length datagram.old ≤ 65536 }
+        ensures left { (keys : Keys) (kid : ℕ) (received : History) (sealed : ℕ) → KeysStand C.sealed self.old keys kid received sealed →
+            KeysStand C.sealed self.new keys kid (received_after received now (opened_under (other role) keys kid datagram.old)) sealed }
+        ensures long { IfOk result (λ n. n + 24 ≡ length datagram.old) }
+        ensures answer { (keys : Keys) (kid : ℕ) (received : History) (sealed : ℕ) → KeysStand C.sealed self.old keys kid received sealed →
+            TellsInner result datagram.new (answer_to received now (opened_under (other role) keys kid datagram.old)) }
+        ensures shown { (keys : Keys) (kid : ℕ) (received : History) (sealed : ℕ) → KeysStand C.sealed self.old keys kid received sealed →
+            ShowsInner datagram.new (opened_under (other role) keys kid datagram.old) }
+        ensures unchanged { IsUnchanged result datagram.old datagram.new }
+        ensures front { take 24 datagram.new ≡ take 24 datagram.old }
+        ensures length { length datagram.new ≡ length datagram.old }
+    {
+        self.unseal_of(role, datagram, now)
+    }
+
+    // The same as an end of this role.
+    #[tactic(auto, unfolding(crate::specs::Standing::ChannelStands, crate::specs::Channels::opened_of))]
+    fn unseal_of(
         &mut self,
         role: Role,
         datagram: &mut [u8],
@@ -255,6 +301,7 @@ impl<C: Aead + Drop> DataChannel<C> {
         ensures answer { (c : Channel) → ChannelStands C.sealed self.old c →
             TellsInner result datagram.new (answer_to c.received now (opened_of (other role) c datagram.old)) }
         ensures shown { (c : Channel) → ChannelStands C.sealed self.old c → ShowsInner datagram.new (opened_of (other role) c datagram.old) }
+        ensures role { self.new.role ≡ self.old.role }
         ensures unchanged { IsUnchanged result datagram.old datagram.new }
         ensures front { take 24 datagram.new ≡ take 24 datagram.old }
         ensures length { length datagram.new ≡ length datagram.old }

@@ -84,20 +84,79 @@ fn keys() -> KeyBlock {
     KeyBlock(block)
 }
 
-fn came(alloc: Global, bytes: &[u8]) -> Result<ChannelEvent, NoMemory> {
+// What comes, be it a data packet or, without bytes, the inner packet to be sealed, and when; and the packet that is
+// answered, or why there is none.
+type Row = (&'static [u8], u64, &'static [u8], Option<DataFault>);
+
+const NOT_SEALED: Option<DataFault> = Some(DataFault::NotSealed);
+
+const SEEN: Option<DataFault> = Some(DataFault::Stale {
+    kind: Freshness::Seen,
+    id: 1,
+    greatest: 1,
+});
+
+const OLD: Option<DataFault> = Some(DataFault::Stale {
+    kind: Freshness::Old,
+    id: 5,
+    greatest: 9,
+});
+
+const LATE: Option<DataFault> = Some(DataFault::Stale {
+    kind: Freshness::Late,
+    id: 8,
+    greatest: 9,
+});
+
+const ZERO: Option<DataFault> = Some(DataFault::Stale {
+    kind: Freshness::Zero,
+    id: 0,
+    greatest: 9,
+});
+
+const ROWS: [Row; 12] = [
+    (&[], 0, &SERVER_LAST_BUT_ONE, None),
+    (&CLIENT_1, 0, &INNER, None),
+    (&CLIENT_1, 1, &[], SEEN),
+    (&CLIENT_9, 2, &INNER, None),
+    (&CLIENT_5, 3, &[], OLD),
+    (&CLIENT_8, 1_003, &[], LATE),
+    (&CLIENT_0, 1_003, &[], ZERO),
+    // The direction exchanged, other keys, another cipher.
+    (&SERVER_LAST_BUT_ONE, 1_003, &[], NOT_SEALED),
+    (&CLIENT_OTHER_KEYS, 1_003, &[], NOT_SEALED),
+    (&CLIENT_AES_128, 1_003, &[], NOT_SEALED),
+    (&[], 1_003, &SERVER_LAST, None),
+    (&[], 1_003, b"spent", None),
+];
+
+const SETUP: ChannelSetup = ChannelSetup {
+    cipher: Cipher::Aes256Gcm,
+    role: Role::Server,
+    kid: 3,
+    peer_id: 5,
+    win: 4,
+    win_secs: 1,
+    last_sealed: u32::MAX - 2,
+};
+
+fn event(alloc: Global, came: &[u8]) -> Result<ChannelEvent, NoMemory> {
+    if came.is_empty() {
+        return Ok(ChannelEvent::Inner {
+            packet: Bytes::copy(alloc, &INNER)?,
+        });
+    }
     Ok(ChannelEvent::Datagram {
-        bytes: Bytes::copy(alloc, bytes)?,
+        bytes: Bytes::copy(alloc, came)?,
     })
 }
 
-fn inner(alloc: Global) -> Result<ChannelEvent, NoMemory> {
-    Ok(ChannelEvent::Inner {
-        packet: Bytes::copy(alloc, &INNER)?,
-    })
-}
-
-fn stale(kind: Freshness, id: u32, greatest: u32) -> DataFault {
-    DataFault::Stale { kind, id, greatest }
+fn events(alloc: Global) -> Result<Vec<(ChannelEvent, Moment)>, NoMemory> {
+    let mut events = Vec::new(alloc);
+    for row in ROWS.iter() {
+        events.push((event(alloc, row.0)?, Moment(row.1)))?;
+    }
+    Ok(events)
 }
 
 // An answer's packet, and why there is none.
@@ -113,54 +172,11 @@ fn told(answer: &ChannelAnswer) -> (&[u8], Option<DataFault>) {
 
 #[test]
 fn a_whole_run(rt: HostRuntime) -> Result<(), Fail> {
-    let alloc = rt.alloc();
-    let setup = ChannelSetup {
-        cipher: Cipher::Aes256Gcm,
-        role: Role::Server,
-        kid: 3,
-        peer_id: 5,
-        win: 4,
-        win_secs: 1,
-        last_sealed: u32::MAX - 2,
-    };
-    let long = ChannelEvent::Datagram {
-        bytes: Bytes::of(vec![in alloc; 0u8; 65_537]?),
-    };
-    let events = [
-        (inner(alloc)?, Moment(0)),
-        (came(alloc, &CLIENT_1)?, Moment(0)),
-        (came(alloc, &CLIENT_1)?, Moment(1)),
-        (came(alloc, &CLIENT_9)?, Moment(2)),
-        (came(alloc, &CLIENT_5)?, Moment(3)),
-        (came(alloc, &CLIENT_8)?, Moment(1_003)),
-        (came(alloc, &CLIENT_0)?, Moment(1_003)),
-        // The direction exchanged, other keys, another cipher.
-        (came(alloc, &SERVER_LAST_BUT_ONE)?, Moment(1_003)),
-        (came(alloc, &CLIENT_OTHER_KEYS)?, Moment(1_003)),
-        (came(alloc, &CLIENT_AES_128)?, Moment(1_003)),
-        (inner(alloc)?, Moment(1_003)),
-        (inner(alloc)?, Moment(1_003)),
-        (long, Moment(1_003)),
-    ];
-    let wanted: [(&[u8], Option<DataFault>); 13] = [
-        (&SERVER_LAST_BUT_ONE, None),
-        (&INNER, None),
-        (&[], Some(stale(Freshness::Seen, 1, 1))),
-        (&INNER, None),
-        (&[], Some(stale(Freshness::Old, 5, 9))),
-        (&[], Some(stale(Freshness::Late, 8, 9))),
-        (&[], Some(stale(Freshness::Zero, 0, 9))),
-        (&[], Some(DataFault::NotSealed)),
-        (&[], Some(DataFault::NotSealed)),
-        (&[], Some(DataFault::NotSealed)),
-        (&SERVER_LAST, None),
-        (b"spent", None),
-        (b"long", None),
-    ];
-    let answers = run_channel(alloc, &keys(), &setup, &events)?;
-    assert_eq!(rt; answers.len(), wanted.len());
-    for (answer, wanted) in answers.iter().zip(wanted.iter()) {
-        assert!(rt; told(answer) == *wanted);
+    let events = events(rt.alloc())?;
+    let answers = run_channel(rt.alloc(), &keys(), &SETUP, &events)?;
+    assert_eq!(rt; answers.len(), ROWS.len());
+    for (answer, row) in answers.iter().zip(ROWS.iter()) {
+        assert!(rt; told(answer) == (row.2, row.3));
     }
     Ok(())
 }
