@@ -1,11 +1,10 @@
 -- The data packets of one key session at one end: what was sealed, and what opened and was accepted.
-use Rattle.std.specs.Prelude.{◌≡◌, ℕ, ◌+◌, ◌==◌, ◌^◌, ◌-◌, Bool, false, List, length, drop, Option, Some, None, Result, Ok, Err}
+use Rattle.std.specs.Prelude.{ℕ, ◌+◌, List, Option, Some, None, Result, Ok, Err}
 use Rattle.vpn_base.specs.declared.names.Freshness.{Freshness}
 use Rattle.vpn_base.specs.declared.names.Freshness.TheVariants.{Fresh}
 use Rattle.vpn_base.specs.declared.names.Moment.{Moment}
 use Rattle.vpn_base.specs.declared.names.Role.{Role}
 use Rattle.gcm_seal.specs.Gcm.{gcm}
-use Rattle.packet_ids.specs.declared.sending.Spent.{Spent}
 use Rattle.packet_ids.specs.Freshness.{History, freshness, greatest_id, recorded}
 use Rattle.sealed_packet.specs.Opening.{opening}
 use Rattle.sealed_packet.specs.SealedPacket.{Sealing, packet}

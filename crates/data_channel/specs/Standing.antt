@@ -12,7 +12,7 @@ use Rattle.sealed_packet.specs.SealedPacket.{Sealing}
 use Rattle.data_channel.specs.declared.channel.DataChannel.{DataChannel}
 use Rattle.data_channel.specs.declared.channel.DataFault.{DataFault}
 use Rattle.data_channel.specs.declared.channel.DataFault.TheVariants.{NotSealed, Stale}
-use Rattle.data_channel.specs.Channels.{Channel, Direction, channel_of}
+use Rattle.data_channel.specs.Channels.{Channel, channel_of}
 
 -- the one for this role
 abbrev pub by_role : {X : Type 0} → X → X → Role → X

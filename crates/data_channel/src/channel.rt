@@ -121,9 +121,7 @@ impl DataChannel<AnyGcm> {
             GcmStands channel (channel_of role (record { block = keys.now.0; cipher = cipher; peer_id = peer_id }) kid (begun win win_secs) 0)) }
     {
         match Window::new(alloc, win, win_secs) {
-            Ok(window) => Ok(DataChannel::over_window(
-                keys, cipher, role, kid, peer_id, window,
-            )),
+            Ok(window) => Ok(DataChannel::over_window(keys, cipher, role, kid, peer_id, window)),
             Err(NoMemory) => Err(NoMemory),
         }
     }

@@ -1,4 +1,4 @@
-use Rattle.std.proofs.Common.{◌≡◌, ◌+◌, List, [], ◌∷◌, ◌++◌, get_or, take, ap, sym, subst, ◌∙◌}
+use Rattle.std.proofs.Common.{List, [], ◌∷◌, ◌++◌, take, ap, sym, subst, ◌∙◌}
 use Rattle.data_channel.specs.declared.runs.ChannelAnswer.{ChannelAnswer}
 use Rattle.data_channel.specs.Channels.{Channel}
 use Rattle.data_channel.specs.Runs.{EventAt, after_events, answers_of, channel_begun}

@@ -1,4 +1,4 @@
-use Rattle.std.proofs.Common.{◌≡◌, ◌+◌, OnErr, OnOk, sym, subst}
+use Rattle.std.proofs.Common.{◌+◌, OnErr, OnOk, sym, subst}
 use Rattle.vpn_base.specs.declared.names.Role.{Role}
 use Rattle.peer_table.specs.DataPackets.{sealed_under}
 use Rattle.data_channel.specs.Channels.{channel_of, next_packet_of}

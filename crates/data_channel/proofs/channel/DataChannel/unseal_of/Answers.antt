@@ -1,8 +1,8 @@
-use Rattle.std.proofs.Common.{rules, ◌≡◌, ◌≤◌, ◌+◌, ◌-◌, ℕ, List, length, take, drop, Option, Some, Result, Ok, Err, IfOk, refl, sym, subst, arith}
+use Rattle.std.proofs.Common.{rules, ◌≡◌, ◌≤◌, ◌+◌, ℕ, List, length, drop, Option, Some, Result, Ok, Err, IfOk, refl, sym, subst, arith}
 use Rattle.std.proofs.lemmas.List.{length-drop}
 use Rattle.peer_table.specs.Peer.{other}
 use Rattle.data_channel.specs.declared.channel.DataFault.{DataFault}
-use Rattle.data_channel.specs.Channels.{Channel, answer_to, opened_of}
+use Rattle.data_channel.specs.Channels.{answer_to, opened_of}
 use Rattle.data_channel.specs.Standing.{ChannelStands, TellsInner}
 use Rattle.data_channel.proofs.Lengths.{opens_long}
 use Rattle.data_channel.proofs.channel.DataChannel.unseal_of.Goals as goal
@@ -16,8 +16,8 @@ returns-in-Ok-clause-long g c =
     let before = c.args.datagram.now in
     let after = c.open_packet-opened.new.datagram in
     let long : 24 ≤ length before =
-        opens_long (g.C.Aead.sealed c.by_role-sealer.result.now.cipher) c.by_role-sealer.result.now.implicit _ c.in-Ok.id before (drop 24 after)
-        (g.met.C.Aead.lengths c.by_role-sealer.result.now.cipher) c.in-Ok.ensures.opened in
+    opens_long (g.C.Aead.sealed c.by_role-sealer.result.now.cipher) c.by_role-sealer.result.now.implicit _ c.in-Ok.id before (drop 24 after)
+    (g.met.C.Aead.lengths c.by_role-sealer.result.now.cipher) c.in-Ok.ensures.opened in
     let same : length after ≡ length before = search rules in
     long_if c.accept_id.result c.saturating_sub.result (length before) c.accept_id.ensures.size (omega (arith, long, same, c.saturating_sub.ensures))
 
