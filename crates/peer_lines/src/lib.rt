@@ -1,0 +1,4 @@
+//! What belongs to one key session.
+#![tactic(auto)]
+
+mod channels;
