@@ -1,4 +1,0 @@
-//! What belongs to one key session.
-#![tactic(auto)]
-
-mod channels;
