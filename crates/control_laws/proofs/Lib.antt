@@ -1,0 +1,15 @@
+pub mod Actions
+pub mod Lines
+pub mod Kept
+pub mod Begins
+pub mod Calls
+pub mod Takes
+pub mod Came
+pub mod Keeps
+pub mod KeptEndings
+pub mod KeptPackets
+pub mod KeptEstablishing
+pub mod KeptExchange
+pub mod KeptEngine
+pub mod KeptTime
+pub mod KeptData
