@@ -119,7 +119,8 @@ module _ {brought : ℕ → ℕ → Arrival → Type 0} {base : Before} where
       KeptParts brought base key count lines effects → KeptParts brought base key count later effects
   lines_kept {key = key} {count = count} {effects = effects} same is = subst (λ all. KeptParts brought base key count all effects) (sym same) is
 
-  takes_kept : {key : List ℕ} {count : ℕ} {lines : List (List Line)} {effects : List Action} (later : List (List Line)) (n k : ℕ) (l x : Line) (more : List Action) →
+  -- a line takes a packet
+  pub takes_kept : {key : List ℕ} {count : ℕ} {lines : List (List Line)} {effects : List Action} (later : List (List Line)) (n k : ℕ) (l x : Line) (more : List Action) →
       line_at lines n k ≡ Some l → LinePut lines later n k x → TakesLine brought n k l x more →
       KeptParts brought base key count lines effects → KeptParts brought base key count later (effects ++ more)
   takes_kept {count = count} {lines = lines} {effects = effects} later n k l x more at put takes is = record {

@@ -13,3 +13,5 @@ pub mod KeptExchange
 pub mod KeptEngine
 pub mod KeptTime
 pub mod KeptData
+pub mod Placed
+pub mod KeptTaking

@@ -90,6 +90,19 @@ others_appended (y ∷ xs) x (suc m) = next_or (others_appended xs x m)
 pub changed_put : {X : Type 0} (n : ℕ) (f : X → X) (xs : List X) (x : X) → slice_get xs n ≡ Some x → ItemPut xs (changed_at n f xs) n (f x)
 changed_put n f xs x there = record { there = get_changed n f xs x there; others = others_changed n f xs }
 
+-- two changes at one place differ there alone
+pub both_put : {X : Type 0} (n : ℕ) (f g : X → X) (xs : List X) (x : X) → slice_get xs n ≡ Some x → ItemPut (changed_at n f xs) (changed_at n g xs) n (g x)
+both_put n f g xs x there = record {
+  there = get_changed n g xs x there;
+  others = λ m. go m (others_changed n g xs m) (others_changed n f xs m);
+}
+  where
+    go : (m : ℕ) → (m ≡ n) ⊎ (slice_get (changed_at n g xs) m ≡ slice_get xs m) → (m ≡ n) ⊎ (slice_get (changed_at n f xs) m ≡ slice_get xs m) →
+        (m ≡ n) ⊎ (slice_get (changed_at n g xs) m ≡ slice_get (changed_at n f xs) m)
+    go m (inl e) other = inl e
+    go m (inr e) (inl f) = inl f
+    go m (inr e) (inr f) = inr (e ∙ sym f)
+
 pub appended_put : {X : Type 0} (xs : List X) (x : X) → ItemPut xs (xs ++ x ∷ []) (length xs) x
 appended_put xs x = record { there = get_last xs x; others = others_appended xs x }
 
