@@ -15,3 +15,5 @@ pub mod KeptTime
 pub mod KeptData
 pub mod Placed
 pub mod KeptTaking
+pub mod KeptControl
+pub mod Steps
