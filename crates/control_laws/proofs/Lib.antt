@@ -17,3 +17,5 @@ pub mod Placed
 pub mod KeptTaking
 pub mod KeptControl
 pub mod Steps
+pub mod Runs
+pub mod RunLaws

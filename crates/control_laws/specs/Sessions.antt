@@ -26,3 +26,11 @@ pub record IsStillIn (t : Table) (n k : ℕ) (s : Session) : Type 0 where
   pub kid : later.link.kid ≡ s.link.kid
   pub more : List Arrival
   pub taken : later.link.receiving.taken ≡ s.link.receiving.taken ++ more
+
+-- a key session has this connection
+pub record IsOn (t : Table) (conn : ℕ) : Type 0 where
+  pub client : ℕ
+  pub number : ℕ
+  pub session : Session
+  pub there : session_of t client number ≡ Some session
+  pub on : session.link.conn.0 ≡ conn

@@ -1,0 +1,8 @@
+use Rattle.control_laws.proofs.RunLaws.{put_is_read, put_is_text}
+use Rattle.control_laws.proofs.laws.control_text_is_put_in_order.Goals as goal
+
+pub returns-clause-text : goal.returns-clause-text
+returns-clause-text c = put_is_text c.link_reads.ensures
+
+pub returns-clause-read : goal.returns-clause-read
+returns-clause-read c = put_is_read c.link_reads.ensures
