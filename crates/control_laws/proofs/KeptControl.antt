@@ -171,7 +171,7 @@ module _ (reads : LinkReads) (up : IsReadUp begun) {brought : ℕ → ℕ → Ar
 
 -- ---- the key id
 
-new_kid : (op : Opcode) (r : ControlPacket) → begins_client op r ≡ true → carried_kid r ≡ 0
+pub new_kid : (op : Opcode) (r : ControlPacket) → begins_client op r ≡ true → carried_kid r ≡ 0
 new_kid op r begins =
     let a = and_parts (is_client_reset op && (carried_kid r == 0)) (is_first r.form.id) begins in
     eqb-true (carried_kid r) 0 (and_parts (is_client_reset op) (carried_kid r == 0) a.0).1

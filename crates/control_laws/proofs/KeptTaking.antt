@@ -46,7 +46,7 @@ abbrev pub took : link.Outcome → Session → Session
 took o s = record s { link = read_here 12 o.link }
 
 -- the lines of a peer of which one session took
-taken_put : (p : Peer) (i : Incoming) (k : ℕ) (s : Session) (o : link.Outcome) → slice_get p.sessions k ≡ Some s →
+pub taken_put : (p : Peer) (i : Incoming) (k : ℕ) (s : Session) (o : link.Outcome) → slice_get p.sessions k ≡ Some s →
     ItemPut (lines_in p) (lines_in (taken_as p i k o).peer) k (line_of (took o s))
 taken_put p i k s o there = map_put line_of p.sessions (changed_at k (took o) p.sessions) k (took o s) (changed_put k (took o) p.sessions s there)
 

@@ -19,3 +19,4 @@ pub mod KeptControl
 pub mod Steps
 pub mod Runs
 pub mod RunLaws
+pub mod Lost
