@@ -20,3 +20,4 @@ pub mod Steps
 pub mod Runs
 pub mod RunLaws
 pub mod Lost
+pub mod StepLaws

@@ -7,5 +7,5 @@ mod laws;
 
 pub use laws::{
     connections_are_never_shared, control_text_is_put_in_order, control_text_was_brought,
-    what_was_taken_stays,
+    no_control_packet_is_lost, what_was_taken_stays,
 };
