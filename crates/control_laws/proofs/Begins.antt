@@ -1,5 +1,5 @@
 -- A line begins: a connection is opened, and a session has it.
-use Rattle.std.proofs.Common.{◌≡◌, ◌≤◌, ◌<◌, ◌+◌, ℕ, zero, suc, ◌==◌, Bool, true, false, List, [], ◌∷◌, ◌++◌, Option, Some, None, refl, sym, ap, ◌∙◌, subst, arith, inl, inr, append-nil, add-one}
+use Rattle.std.proofs.Common.{◌≡◌, ◌<◌, ◌+◌, ℕ, suc, ◌==◌, Bool, true, false, List, [], ◌∷◌, ◌++◌, Option, Some, None, refl, sym, ap, ◌∙◌, subst, arith, inl, inr, append-nil, add-one}
 use Rattle.std.specs.Prelude.{◌⊎◌}
 use Rattle.std.proofs.lemmas.Bool.{eq-eqb, eqb-false, eqb-true, false≢true}
 use Rattle.vpn_base.specs.declared.names.Conn.{Conn}
@@ -8,7 +8,7 @@ use Rattle.vpn_links.specs.Actions.{Action, EngineOpen}
 use Rattle.reliable_recv.specs.Receiving.{Arrival, begun, in_order, text}
 use Rattle.control_link.specs.Reading.{IsReadUp}
 use Rattle.peer_table.specs.KeySessions.{kid_of}
-use Rattle.control_laws.specs.Puts.{only_if, opened_after, put_on}
+use Rattle.control_laws.specs.Puts.{only_if, put_on}
 use Rattle.control_laws.proofs.Actions.{none_some, some_same, within}
 use Rattle.control_laws.proofs.Lines.{Line, LinePut, line_at}
 use Rattle.control_laws.proofs.Kept.{Before, HasLine, IsGrown, IsLine, KeptParts, begun_line, opened_more, put_more}

@@ -1,6 +1,6 @@
 -- What the calls of a client's session do to its lines: nearly all leave them, and put and open nothing.
-use Rattle.std.proofs.Common.{◌≡◌, ◌+◌, ℕ, zero, suc, Bool, true, false, List, [], ◌∷◌, ◌++◌, length, map, Option, Some, None, refl, sym, ap, ◌∙◌, subst, inl, inr, Result, Ok, Err}
-use Rattle.std.specs.Prelude.{◌&&◌, ◌⊎◌, slice_get, if◌then◌else◌}
+use Rattle.std.proofs.Common.{◌≡◌, ◌+◌, ℕ, Bool, true, false, List, [], ◌∷◌, ◌++◌, length, map, Option, Some, None, refl, sym, ap, ◌∙◌, subst}
+use Rattle.std.specs.Prelude.{◌&&◌, slice_get, if◌then◌else◌}
 use Rattle.std.specs.Str.{bytes_eq}
 use Rattle.std.proofs.lemmas.Bool.{and_from, and_parts, false≢true}
 use Rattle.vpn_base.specs.declared.names.Cipher.{Cipher}
@@ -24,7 +24,6 @@ use Rattle.control_link.specs.declared.link.LinkEnd.TheVariants.{TextFull}
 use Rattle.control_link.specs.Calls as link
 use Rattle.control_link.specs.Envelope.{EnvelopeHistory}
 use Rattle.control_link.specs.Links.{Link}
-use Rattle.peer_table.specs.declared.outcomes.SessionFault.{SessionFault}
 use Rattle.peer_table.specs.declared.outcomes.Turn.{Turn}
 use Rattle.peer_table.specs.declared.outcomes.Turn.TheVariants.{Going}
 use Rattle.peer_table.specs.ControlPackets.{next_session, with_next}
@@ -39,7 +38,7 @@ use Rattle.peer_table.specs.Places.{changed_at, places_from}
 use Rattle.peer_table.specs.Time.{Ticking, all_closed, gone_by, is_late, renewed, renews, resent, resent_in, retired, staying, ticked, ticked_idle, ticked_late}
 use Rattle.server_table.specs.Courses.{opened_by}
 use Rattle.control_laws.proofs.Actions.{are_quiet, some_same}
-use Rattle.control_laws.proofs.Lines.{ItemPut, Line, appended_put, get_past, line_of, lines_in, map_changed, map_put}
+use Rattle.control_laws.proofs.Lines.{ItemPut, Line, appended_put, line_of, lines_in, map_changed, map_put}
 use Rattle.control_laws.proofs.Kept.{begun_line}
 
 -- ---- what is done

@@ -1,5 +1,5 @@
 -- What a control packet comes to at a client's session.
-use Rattle.std.proofs.Common.{◌≡◌, ℕ, Bool, true, false, List, [], ◌∷◌, length, Option, Some, None, refl, Result, Ok, Err}
+use Rattle.std.proofs.Common.{◌≡◌, ℕ, Bool, true, false, [], Option, Some, None, refl, Result}
 use Rattle.std.specs.Prelude.{slice_get}
 use Rattle.vpn_base.specs.declared.names.Freshness.{Freshness}
 use Rattle.vpn_base.specs.declared.names.Freshness.TheVariants.{Fresh, Zero, Old, Seen, Late}

@@ -1,17 +1,15 @@
 -- What a course has kept since a run began.
-use Rattle.std.proofs.Common.{◌≡◌, ◌≤◌, ◌<◌, ◌+◌, ℕ, zero, suc, ◌==◌, Bool, true, false, List, [], ◌∷◌, ◌++◌, Option, Some, None, refl, sym, ap, ◌∙◌, subst, arith, inl, inr, append_assoc, append-nil, nat_lt}
+use Rattle.std.proofs.Common.{◌≡◌, ◌<◌, ℕ, ◌==◌, Bool, true, false, List, [], ◌∷◌, ◌++◌, Some, refl, sym, ap, ◌∙◌, subst, arith, inl, inr, append_assoc, append-nil}
 use Rattle.std.specs.Prelude.{◌⊎◌}
 use Rattle.std.specs.List.{AllByRecursion}
-use Rattle.std.proofs.lemmas.Bool.{eq-eqb, eqb-false, eqb-true, lt-ltb}
-use Rattle.vpn_base.specs.declared.names.Conn.{Conn}
-use Rattle.vpn_base.specs.declared.names.Role.{Role}
-use Rattle.vpn_links.specs.Actions.{Action, EngineOpen}
+use Rattle.std.proofs.lemmas.Bool.{eqb-false, eqb-true}
+use Rattle.vpn_links.specs.Actions.{Action}
 use Rattle.reliable_recv.specs.Receiving.{Arrival, begun, text}
 use Rattle.control_link.specs.Reading.{IsReadUp}
 use Rattle.peer_table.specs.KeySessions.{kid_of}
 use Rattle.server_table.specs.Courses.{Course}
-use Rattle.control_laws.specs.Puts.{only_if, opened_after, put_on}
-use Rattle.control_laws.proofs.Actions.{are_quiet, none_some, opened_append, put_append, quiet_opened, quiet_put, some_same, within}
+use Rattle.control_laws.specs.Puts.{opened_after, put_on}
+use Rattle.control_laws.proofs.Actions.{are_quiet, opened_append, put_append, quiet_opened, quiet_put, some_same}
 use Rattle.control_laws.proofs.Lines.{Line, LinePut, line_at, lines_of}
 
 -- what was before: the static key, the lines at some moment of the run, and all that was done before this step

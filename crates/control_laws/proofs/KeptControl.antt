@@ -1,6 +1,6 @@
 -- A control packet that comes, by the client that it is of, or that it admits.
-use Rattle.std.proofs.Common.{◌≡◌, ◌+◌, ℕ, zero, suc, ◌==◌, Bool, true, false, List, [], ◌∷◌, ◌++◌, length, Option, Some, None, refl, sym, ap, ◌∙◌, subst, Result, Ok, Err, if◌then◌else◌}
-use Rattle.std.specs.Prelude.{◌&&◌, slice_get}
+use Rattle.std.proofs.Common.{◌≡◌, ℕ, zero, suc, ◌==◌, Bool, true, false, List, [], ◌∷◌, ◌++◌, length, Option, Some, None, refl, sym, ap, ◌∙◌, subst, Result, Ok, Err, if◌then◌else◌}
+use Rattle.std.specs.Prelude.{◌&&◌}
 use Rattle.std.proofs.lemmas.Bool.{and_parts, eqb-true, false≢true}
 use Rattle.vpn_base.specs.declared.address.Addr.{Addr}
 use Rattle.vpn_base.specs.declared.names.Draw.{Draw}
@@ -19,21 +19,20 @@ use Rattle.reliable_recv.specs.Receiving.{Arrival, begun}
 use Rattle.control_link.specs.Reading.{IsReadUp}
 use Rattle.peer_table.specs.ControlPackets.{is_first, newest_is_finished, sid_of}
 use Rattle.peer_table.specs.KeySessions.{kid_of}
-use Rattle.peer_table.specs.Peer.{Outcome, Peer, began}
-use Rattle.peer_table.specs.Places.{changed_at}
+use Rattle.peer_table.specs.Peer.{began}
 use Rattle.server_table.specs.Table.{Client, Table}
 use Rattle.server_table.specs.Lookups.{by_session, client_here, has_session, is_full}
 use Rattle.server_table.specs.Courses.{Course, reported}
 use Rattle.server_table.specs.DataDatagrams.{FromWire}
-use Rattle.server_table.specs.ControlDatagrams.{ControlPacket, admitted, admitted_if_wrapped, admitted_unless_full, begins_client, client_begun, client_wraps, control_arrived, control_at, control_read, control_unwrapped, first_of, is_client_reset, of_nobody, opened_for, session_begun, to_client}
-use Rattle.control_laws.specs.Tests.{Admits, GoesTo, IsControlPacket, IsOfClient, IsPlaced, Known, Live, New, Next, carried_kid, wraps_of_clients}
+use Rattle.server_table.specs.ControlDatagrams.{ControlPacket, admitted, admitted_unless_full, begins_client, client_begun, client_wraps, control_arrived, control_at, control_read, control_unwrapped, first_of, is_client_reset, of_nobody, opened_for, session_begun}
+use Rattle.control_laws.specs.Tests.{GoesTo, IsControlPacket, IsPlaced, Known, Live, New, Next, carried_kid, wraps_of_clients}
 use Rattle.control_laws.specs.internal.LinkReads.{LinkReads}
 use Rattle.control_laws.proofs.Actions.{none_some, some_same}
-use Rattle.control_laws.proofs.Lines.{Line, LinePut, client_lines, get_changed, get_last, get_past, joined_put, line_at, line_in, lines_of, map_append, map_changed}
+use Rattle.control_laws.proofs.Lines.{LinePut, client_lines, get_changed, get_last, get_past, joined_put, line_in, lines_of, map_append, map_changed}
 use Rattle.control_laws.proofs.Kept.{Before, Kept, begun_line}
 use Rattle.control_laws.proofs.Begins.{begins_kept}
 use Rattle.control_laws.proofs.Keeps.{at_place, did_kept, here_at, with_session}
-use Rattle.control_laws.proofs.KeptTaking.{IsForSession, to_client_kept}
+use Rattle.control_laws.proofs.KeptTaking.{to_client_kept}
 use Rattle.control_laws.proofs.Placed.{begins_parts, first_is, placed_kid}
 
 -- ---- the client that is admitted

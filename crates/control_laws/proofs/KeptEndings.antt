@@ -1,5 +1,5 @@
 -- The end of a client leaves its lines.
-use Rattle.std.proofs.Common.{◌≡◌, ℕ, Bool, true, false, List, [], ◌∷◌, ◌++◌, Option, Some, None, refl}
+use Rattle.std.proofs.Common.{◌≡◌, ℕ, Bool, true, false, List, [], ◌∷◌, Option, Some, None, refl}
 use Rattle.std.specs.Prelude.{if◌then◌else◌}
 use Rattle.vpn_base.specs.declared.names.Cause.{Cause}
 use Rattle.reliable_recv.specs.Receiving.{Arrival}
@@ -7,14 +7,14 @@ use Rattle.peer_table.specs.declared.outcomes.Turn.{Turn}
 use Rattle.peer_table.specs.declared.outcomes.Turn.TheVariants.{Going, Ignored, Named, Exchange, Over}
 use Rattle.peer_table.specs.KeySessions.{Session}
 use Rattle.peer_table.specs.Outboxes.{actions_of}
-use Rattle.peer_table.specs.Peer.{Closes, Doing}
+use Rattle.peer_table.specs.Peer.{Closes}
 use Rattle.peer_table.specs.Time.{closings}
 use Rattle.server_table.specs.Table.{Client, Established}
 use Rattle.server_table.specs.Lookups.{client_here}
 use Rattle.server_table.specs.Courses.{Course}
 use Rattle.server_table.specs.Endings.{disconnect_line, ended, ended_as, ending_effects, gone, turned}
 use Rattle.control_laws.proofs.Actions.{are_quiet, quiet_append}
-use Rattle.control_laws.proofs.Calls.{are_still, closed_lines, is_still, still_quiet}
+use Rattle.control_laws.proofs.Calls.{are_still, closed_lines, still_quiet}
 use Rattle.control_laws.proofs.Kept.{Before, Kept, quiet_kept}
 use Rattle.control_laws.proofs.Keeps.{same_kept}
 

@@ -19,7 +19,7 @@ use Rattle.peer_table.specs.EngineAnswers.{engine_came}
 use Rattle.peer_table.specs.Exchange.{most_unread}
 use Rattle.reliable_recv.specs.Receiving.{Arrival}
 use Rattle.peer_table.specs.Peer.{Outcome}
-use Rattle.server_table.specs.Table.{Awaited, Client, FileState, Known, Table, Unasked}
+use Rattle.server_table.specs.Table.{Awaited, Client, FileState, Known, Unasked}
 use Rattle.server_table.specs.Lookups.{by_connection, cid, client_here}
 use Rattle.server_table.specs.Courses.{Course, acted}
 use Rattle.server_table.specs.Engine.{answer_acted, answer_at, answer_for, asked, asked_by, asked_for, asked_in, asked_once, default_name, down_at, engine_acted, engine_answered, engine_is_down, file_accepted, file_at, file_came, file_for, file_given, file_is, file_known, file_lacking, file_missing, file_read, gone_on, unread_if, unread_judged, unread_limit, unread_of}

@@ -8,11 +8,10 @@ use Rattle.push_options.specs.Options.{options_of}
 use Rattle.push_options.specs.Parts.{reply_parts}
 use Rattle.vpn_base.specs.declared.address.Ip4.{Ip4}
 use Rattle.reliable_recv.specs.Receiving.{Arrival}
-use Rattle.server_table.specs.Table.{Client, Table}
+use Rattle.server_table.specs.Table.{Client}
 use Rattle.server_table.specs.Lookups.{cid, client_here, established_named}
 use Rattle.server_table.specs.Courses.{Course}
 use Rattle.server_table.specs.Establishing.{Leased, address_by, ccd_in, client_established, establishing, establishing_lines, network_line, established_at, established_for, established_with, name_in, plan_of, replaced, replaced_unless, reply, with_address, written}
-
 use Rattle.control_laws.proofs.Actions.{are_quiet, quiet_append}
 use Rattle.control_laws.proofs.Kept.{Before, Kept, quiet_kept}
 use Rattle.control_laws.proofs.Keeps.{same_kept}

@@ -8,7 +8,7 @@ use Rattle.peer_table.specs.declared.outcomes.Turn.{Turn}
 use Rattle.peer_table.specs.Exchange.{after_message, cipher_of, exchanged, first_conn, next_message}
 use Rattle.reliable_recv.specs.Receiving.{Arrival}
 use Rattle.peer_table.specs.Peer.{Outcome}
-use Rattle.server_table.specs.Table.{Awaited, Client, Established, FileState, Known, Table, Unasked}
+use Rattle.server_table.specs.Table.{Awaited, Client, Established, FileState, Known, Unasked}
 use Rattle.server_table.specs.Lookups.{cid, client_here}
 use Rattle.server_table.specs.Courses.{Course, acted, client_changed}
 use Rattle.server_table.specs.Endings.{turned}

@@ -8,7 +8,7 @@ use Rattle.peer_table.specs.DataPackets as packets
 use Rattle.reliable_recv.specs.Receiving.{Arrival}
 use Rattle.peer_table.specs.Peer.{Peer}
 use Rattle.route_table.specs.Learned.{is_learned}
-use Rattle.server_table.specs.Table.{Client, Table}
+use Rattle.server_table.specs.Table.{Client}
 use Rattle.server_table.specs.Lookups.{cid, client_here}
 use Rattle.server_table.specs.Courses.{Course}
 use Rattle.server_table.specs.InnerPackets.{dequeued, device_ready, is_host_of, learned, learned_unless_lacking, learned_where, most_queued, queued, queued_unless_full, sealed_as, sealed_for, sealed_to, with_sent}

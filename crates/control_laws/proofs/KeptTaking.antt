@@ -1,8 +1,8 @@
 -- A client's session takes a control packet: its line gains what the packet brings, or a line begins and takes it.
-use Rattle.std.proofs.Common.{◌≡◌, ◌+◌, ℕ, zero, suc, Bool, true, false, List, [], ◌∷◌, ◌++◌, length, map, Option, Some, None, refl, sym, ap, ◌∙◌, subst, inl, inr, add-zero, append_assoc, Result, Ok, Err}
+use Rattle.std.proofs.Common.{◌≡◌, ◌+◌, ℕ, suc, true, [], ◌∷◌, length, Option, Some, None, refl, sym, ap, ◌∙◌, subst, add-zero, append_assoc, Result, Ok, Err}
 use Rattle.std.specs.Prelude.{slice_get, option_map}
 use Rattle.vpn_base.specs.declared.names.Freshness.TheVariants.{Fresh}
-use Rattle.vpn_links.specs.Actions.{Action, EngineOpen, Report}
+use Rattle.vpn_links.specs.Actions.{EngineOpen, Report}
 use Rattle.vpn_links.specs.declared.notes.Note.TheVariants as notes
 use Rattle.reliable_recv.specs.Receiving.{Arrival, begun}
 use Rattle.control_link.specs.Calls as link
@@ -13,20 +13,20 @@ use Rattle.peer_table.specs.declared.outcomes.Turn.{Turn}
 use Rattle.peer_table.specs.ControlPackets.{Incoming, begun_by, control_came, next_session, puts, sender, taken_as, with_next}
 use Rattle.peer_table.specs.KeySessions.{Session, kid_of}
 use Rattle.peer_table.specs.Outboxes.{actions_of}
-use Rattle.peer_table.specs.Peer.{Opens, Outcome, Peer}
+use Rattle.peer_table.specs.Peer.{Outcome, Peer}
 use Rattle.peer_table.specs.Places.{changed_at}
 use Rattle.packet_ids.specs.LongFreshness.{long_freshness}
 use Rattle.server_table.specs.Table.{Client, Table}
 use Rattle.server_table.specs.Lookups.{cid, client_here}
-use Rattle.server_table.specs.Courses.{Course, acted, client_changed, opened_by}
+use Rattle.server_table.specs.Courses.{Course, acted, client_changed}
 use Rattle.server_table.specs.DataDatagrams.{went_to}
-use Rattle.server_table.specs.ControlDatagrams.{ControlPacket, control_acted, control_answered, control_for, control_session, incoming, to_client, with_fresh}
+use Rattle.server_table.specs.ControlDatagrams.{ControlPacket, control_answered, control_for, control_session, incoming, to_client, with_fresh}
 use Rattle.control_laws.specs.Tests.{IsPlaced, Live, Next}
 use Rattle.control_laws.specs.internal.LinkReads.{LinkReads}
 use Rattle.control_laws.proofs.Calls.{are_still, next_put, none_next}
 use Rattle.control_laws.proofs.Came.{Began, ControlCame, NotTaken, Took, what_came}
-use Rattle.control_laws.proofs.Lines.{ItemPut, Line, both_put, changed_put, get_changed, get_last, get_map, line_at, line_of, lines_in, lines_of, map_put}
-use Rattle.control_laws.proofs.Kept.{Before, Kept, KeptParts, begun_line, takes_kept}
+use Rattle.control_laws.proofs.Lines.{ItemPut, both_put, changed_put, get_changed, get_last, get_map, line_at, line_of, lines_in, lines_of, map_put}
+use Rattle.control_laws.proofs.Kept.{Before, Kept, begun_line, takes_kept}
 use Rattle.control_laws.proofs.Begins.{begins_kept}
 use Rattle.control_laws.proofs.Keeps.{acted_put, count_kept, did_kept, effects_kept, here_at, line_put, line_there, quiet_acted, same_kept, with_session}
 use Rattle.control_laws.proofs.KeptEndings.{turned_kept}
@@ -62,7 +62,7 @@ module _ (reads : LinkReads) (up : IsReadUp begun) {brought : ℕ → ℕ → Ar
       let o = taken_as x.session i k lo in
       let at = (here_at c.table n x here).there in
       let line : line_at (lines_of c.table.clients) n k ≡ Some (line_of s) =
-          line_there c.table.clients n k x (Some (line_of s)) at (get_map line_of x.session.sessions k ∙ ap (λ s. option_map line_of s) there) in
+      line_there c.table.clients n k x (Some (line_of s)) at (get_map line_of x.session.sessions k ∙ ap (λ s. option_map line_of s) there) in
       count_kept (ap (λ more. c.table.connections + more) (puts_opened lo.link.conn (texts_here 12 lo.link)) ∙ add-zero c.table.connections)
       (takes_kept (lines_of (changed_at n (with_session o.peer) c.table.clients)) n k (line_of s) (line_of (took lo s))
       (actions_of x.session.role (puts lo.link.conn (texts_here 12 lo.link))) line
@@ -85,9 +85,9 @@ module _ (reads : LinkReads) (up : IsReadUp begun) {brought : ℕ → ℕ → Ar
       let role = x.session.role in
       let texts = puts lo.link.conn (texts_here 12 lo.link) in
       let opens =
-          acted_put c.table.clients n k x q (begun_line i.next_conn.0 (kid_of k)) at (next_put i.next_conn c.table.moment x.session) in
+      acted_put c.table.clients n k x q (begun_line i.next_conn.0 (kid_of k)) at (next_put i.next_conn c.table.moment x.session) in
       let begun_kept = begins_kept (lines_of mid) n k i.next_conn role up refl
-          (line_there c.table.clients n k x None at (none_next x.session.sessions)) opens is in
+      (line_there c.table.clients n k x None at (none_next x.session.sessions)) opens is in
       effects_kept (sym (append_assoc c.effects (EngineOpen i.next_conn role ∷ []) (actions_of role texts)))
       (count_kept (ap (λ more. c.table.connections + suc more) (puts_opened lo.link.conn (texts_here 12 lo.link)))
       (takes_kept (lines_of (changed_at n (with_session o.peer) c.table.clients)) n k (line_of s) (line_of (took lo s)) (actions_of role texts) opens.there

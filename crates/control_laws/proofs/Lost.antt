@@ -1,13 +1,12 @@
 -- A control packet that meets all tests is taken in its step.
-use Rattle.std.proofs.Common.{◌≡◌, ◌≢◌, ◌+◌, ◌<◌, ◌≤◌, ℕ, zero, suc, ◌==◌, Bool, true, false, List, [], ◌∷◌, ◌++◌, length, map, Option, Some, None, refl, sym, ap, ◌∙◌, subst, arith, append-nil, Result, Ok, Err, if◌then◌else◌, nat_lt}
+use Rattle.std.proofs.Common.{◌≡◌, ℕ, zero, suc, ◌==◌, Bool, true, false, List, [], ◌∷◌, ◌++◌, length, Option, Some, None, refl, sym, ap, ◌∙◌, subst, arith, Result, Ok, Err, if◌then◌else◌}
 use Rattle.std.specs.Prelude.{◌&&◌, slice_get}
 use Rattle.std.specs.List.{find}
-use Rattle.std.proofs.lemmas.Bool.{and_parts, eq-eqb, false≢true, ltb-true, ltb-false}
+use Rattle.std.proofs.lemmas.Bool.{and_parts, eq-eqb, false≢true}
 use Rattle.vpn_base.specs.declared.address.Addr.{Addr}
 use Rattle.vpn_base.specs.declared.names.Cause.{Cause}
 use Rattle.vpn_base.specs.declared.names.Draw.{Draw}
-use Rattle.vpn_base.specs.declared.names.Freshness.{Freshness}
-use Rattle.vpn_base.specs.declared.names.Freshness.TheVariants.{Fresh, Zero, Old}
+use Rattle.vpn_base.specs.declared.names.Freshness.TheVariants.{Fresh, Zero}
 use Rattle.vpn_base.specs.declared.names.Sid.{Sid}
 use Rattle.vpn_links.specs.declared.events.Event.{Event}
 use Rattle.vpn_links.specs.declared.events.Kind.{Kind}
@@ -26,8 +25,8 @@ use Rattle.peer_table.specs.declared.outcomes.Refused.{Refused}
 use Rattle.peer_table.specs.declared.outcomes.Refused.TheVariants.{Replayed, BadKey}
 use Rattle.peer_table.specs.declared.outcomes.Turn.{Turn}
 use Rattle.peer_table.specs.declared.outcomes.Turn.TheVariants.{Going, Ignored, Named, Exchange, Over}
-use Rattle.peer_table.specs.ControlPackets.{Incoming, begins_next, begun_by, control_came, judged, next_session, placed, sender, sid_of, taken_as, taken_by, with_next}
-use Rattle.peer_table.specs.KeySessions.{Session, kid_of, live_with, newest, usable, with_kid}
+use Rattle.peer_table.specs.ControlPackets.{Incoming, begun_by, control_came, judged, next_session, placed, sender, sid_of, taken_as, taken_by, with_next}
+use Rattle.peer_table.specs.KeySessions.{Session, kid_of, live_with, usable}
 use Rattle.peer_table.specs.Peer.{Outcome, Peer, began}
 use Rattle.peer_table.specs.Places.{changed_at, earlier, first_place}
 use Rattle.server_table.specs.Table.{Client, Table}
@@ -47,7 +46,7 @@ use Rattle.control_laws.proofs.Lines.{Line, client_lines, get_changed, get_last,
 use Rattle.control_laws.proofs.Keeps.{line_there, with_session}
 use Rattle.control_laws.proofs.KeptControl.{new_client, new_kid}
 use Rattle.control_laws.proofs.KeptTaking.{taken_put, took}
-use Rattle.control_laws.proofs.Placed.{FirstAt, first_is}
+use Rattle.control_laws.proofs.Placed.{first_is}
 
 -- ---- what follows a packet that was taken leaves all lines
 
@@ -135,14 +134,14 @@ module _ (reads : LinkReads) (up : IsReadUp begun) where
   placed_took r c x k fresh (Live s there live) waits =
       let i = incoming r c x in
       let came : control_came x.session i ≡ taken_as x.session i k (link.received s.link x.session.envelope r.form (sender i) c.table.moment) =
-          ap (judged x.session i) fresh ∙ ap (placed x.session i) live ∙ ap (taken_by x.session i k) there in
+      ap (judged x.session i) fresh ∙ ap (placed x.session i) live ∙ ap (taken_by x.session i k) there in
       subst (λ (o : Outcome (Result Turn Refused)). TookIn o.peer k (taken_in (slice_get x.session.sessions k)) r) (sym came)
       (subst (λ o. TookIn (taken_as x.session i k (link.received s.link x.session.envelope r.form (sender i) c.table.moment)).peer k (taken_in o) r) (sym there)
       (live_took r c x k s there (waits s there)))
   placed_took r c x k fresh (Next none begins next) waits =
       let i = incoming r c x in
       let came : control_came x.session i ≡ begun_by x.session i true =
-          ap (judged x.session i) fresh ∙ ap (placed x.session i) none ∙ ap (begun_by x.session i) begins in
+      ap (judged x.session i) fresh ∙ ap (placed x.session i) none ∙ ap (begun_by x.session i) begins in
       subst (λ (o : Outcome (Result Turn Refused)). TookIn o.peer k (taken_in (slice_get x.session.sessions k)) r) (sym came)
       (subst (λ o. TookIn (begun_by x.session i true).peer k (taken_in o) r) (sym (none_past x.session.sessions k next))
       (subst (λ j. TookIn (begun_by x.session i true).peer j [] r) (sym next) (next_took r c x)))
@@ -240,9 +239,9 @@ new_took reads up d draw r c used kid =
     let y = client_begun c.table d.from (session_begun c.table draw).peer in
     let s = new_session d.from c draw in
     let there : slice_get e.table.clients n ≡ Some x =
-        get_changed n (with_session (session_begun c.table draw).peer) (c.table.clients ++ y ∷ []) y (get_last c.table.clients y) in
+    get_changed n (with_session (session_begun c.table draw).peer) (c.table.clients ++ y ∷ []) y (get_last c.table.clients y) in
     let taken : taken_in (slice_get x.session.sessions 0) ≡ [] =
-        ap taken_in s.there ∙ ap (λ (side : Receiving). side.taken) s.side in
+    ap taken_in s.there ∙ ap (λ (side : Receiving). side.taken) s.side in
     subst (λ all. TookLine (lines_of (admitted d draw r c).table.clients) n 0 all r) taken
     (client_took reads up r n 0 e x there (is_here_at e.table n x there refl) (new_fresh d.from c draw r.packet.time r.packet.id (record { 0 = e.table.moment }) used)
     (Live s.session s.there (new_live d.from c draw e.table.moment (carried_kid r) kid))

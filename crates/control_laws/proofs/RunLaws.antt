@@ -1,7 +1,6 @@
 -- The laws of a run, by what it keeps.
-use Rattle.std.proofs.Common.{◌≡◌, ◌≤◌, ◌<◌, ℕ, List, [], ◌∷◌, ◌++◌, Option, Some, None, refl, sym, ap, ◌∙◌, subst, append-nil}
+use Rattle.std.proofs.Common.{◌≡◌, ◌≤◌, ◌<◌, ℕ, List, [], ◌++◌, Some, sym, ap, ◌∙◌, subst, append-nil}
 use Rattle.std.specs.List.{AllByRecursion}
-use Rattle.vpn_base.specs.declared.names.Conn.{Conn}
 use Rattle.opcode_codec.specs.declared.opcodes.Opcode.TheVariants.{ClientReset}
 use Rattle.ovpn_config.specs.declared.settings.Settings.{Settings}
 use Rattle.reliable_recv.specs.Receiving.{begun, text}

@@ -1,8 +1,7 @@
 -- What a run keeps.
-use Rattle.std.proofs.Common.{◌≡◌, ◌≢◌, ◌<◌, ℕ, Bool, true, false, List, [], ◌∷◌, ◌++◌, refl, sym, ap, ◌∙◌, subst, arith, append-nil, append_assoc}
+use Rattle.std.proofs.Common.{◌≡◌, ◌≢◌, ℕ, Bool, true, false, List, [], ◌∷◌, ◌++◌, refl, sym, ap, ◌∙◌, subst, arith, append-nil, append_assoc}
 use Rattle.std.proofs.lemmas.Bool.{false≢true}
 use Rattle.vpn_links.specs.Actions.{Action, Report}
-use Rattle.vpn_links.specs.declared.events.Event.{Event}
 use Rattle.vpn_links.specs.declared.notes.Note.TheVariants as notes
 use Rattle.vpn_links.specs.Steps.{Lack, LacksAll, LacksHost, LacksNothing}
 use Rattle.reliable_recv.specs.Receiving.{Arrival, begun}
@@ -12,12 +11,12 @@ use Rattle.server_table.specs.Table.{Table, table_begun}
 use Rattle.server_table.specs.Courses.{outs}
 use Rattle.server_table.specs.Runs.{Entry, after, after_all, after_lacking, outs_at, outs_lacking}
 use Rattle.server_table.specs.Step.{course_begun, is_over, step}
-use Rattle.control_laws.specs.Brought.{Brings, WasBrought}
+use Rattle.control_laws.specs.Brought.{WasBrought}
 use Rattle.control_laws.specs.Puts.{all_outs, opened_after}
 use Rattle.control_laws.specs.internal.LinkReads.{LinkReads}
 use Rattle.control_laws.proofs.Actions.{none_some}
-use Rattle.control_laws.proofs.Lines.{Line, line_at, lines_of}
-use Rattle.control_laws.proofs.Kept.{Before, IsLine, KeptParts, quiet_kept}
+use Rattle.control_laws.proofs.Lines.{Line, lines_of}
+use Rattle.control_laws.proofs.Kept.{IsLine, KeptParts, quiet_kept}
 use Rattle.control_laws.proofs.KeptControl.{goes_kid}
 use Rattle.control_laws.proofs.Steps.{Tells, step_kept}
 

@@ -1,12 +1,11 @@
 -- What one step of a run puts, and what it takes.
-use Rattle.std.proofs.Common.{◌≡◌, ◌<◌, ◌≤◌, ℕ, Bool, true, false, List, [], ◌∷◌, ◌++◌, Option, Some, None, refl, sym, ap, ◌∙◌, subst, append-nil, nat_lt}
+use Rattle.std.proofs.Common.{◌≡◌, ◌<◌, ℕ, Bool, true, false, List, [], ◌∷◌, ◌++◌, Option, Some, None, refl, sym, ap, ◌∙◌, append-nil, nat_lt}
 use Rattle.std.proofs.lemmas.Bool.{ltb-false, ltb-true}
 use Rattle.vpn_links.specs.Actions.{Action}
 use Rattle.vpn_links.specs.declared.events.Event.{Event}
 use Rattle.vpn_links.specs.Steps.{LacksHost, LacksNothing}
 use Rattle.ovpn_config.specs.declared.settings.Settings.{Settings}
 use Rattle.reliable_recv.specs.Receiving.{Arrival, in_order, text}
-use Rattle.control_link.specs.Reading.{IsReadUp}
 use Rattle.peer_table.specs.KeySessions.{Session}
 use Rattle.server_table.specs.Table.{Table, table_begun}
 use Rattle.server_table.specs.ControlDatagrams.{ControlPacket}
@@ -15,13 +14,12 @@ use Rattle.server_table.specs.Runs.{Entry, after_all}
 use Rattle.server_table.specs.Sound.{IsSound}
 use Rattle.server_table.specs.Step.{step}
 use Rattle.control_laws.specs.Brought.{IsTakenIn}
-use Rattle.control_laws.specs.Puts.{all_outs, put_on}
+use Rattle.control_laws.specs.Puts.{put_on}
 use Rattle.control_laws.specs.Sessions.{session_of, taken_in}
 use Rattle.control_laws.specs.Tests.{MeetsAll}
 use Rattle.control_laws.specs.internal.LinkReads.{LinkReads}
 use Rattle.control_laws.proofs.Actions.{none_some, put_append, some_same, within}
-use Rattle.control_laws.proofs.Kept.{IsGrown}
-use Rattle.control_laws.proofs.Lines.{Line, line_at, line_at_is, line_by, line_of, lines_of, session_by}
+use Rattle.control_laws.proofs.Lines.{Line, line_at, line_by, line_of, lines_of, session_by}
 use Rattle.control_laws.proofs.Lost.{step_took}
 use Rattle.control_laws.proofs.RunLaws.{side_begun}
 use Rattle.control_laws.proofs.Runs.{KeptAt, later_kept, run_kept}
@@ -45,7 +43,7 @@ put_so_far {past = past} t later n k s kept now there None was = go (nat_lt s.li
         let g = now.grown has.client has.session has.line has.there in
         let place = now.apart has.client has.session n k g.later (line_of s) g.there (line_by later n k s there) (g.conn ∙ has.on) in
         let at : line_at (lines_of t.clients) n k ≡ Some has.line =
-            sym (ap (λ i. line_at (lines_of t.clients) i has.session) place.0 ∙ ap (λ j. line_at (lines_of t.clients) n j) place.1) ∙ has.there in
+        sym (ap (λ i. line_at (lines_of t.clients) i has.session) place.0 ∙ ap (λ j. line_at (lines_of t.clients) n j) place.1) ∙ has.there in
         let found = session_by t n k has.line at in
         none_some (sym was ∙ found.there)
 

@@ -1,12 +1,10 @@
 -- What a step keeps.
-use Rattle.std.proofs.Common.{◌≡◌, ℕ, Bool, true, false, List, [], ◌∷◌, ◌++◌, length, map, None, refl, sym, ap, ◌∙◌, subst, append-nil, append_assoc, nat_lt, Result, Ok, Err}
+use Rattle.std.proofs.Common.{◌≡◌, ℕ, Bool, true, false, List, [], ◌∷◌, length, map, None, refl, nat_lt, Result, Ok, Err}
 use Rattle.std.specs.Prelude.{codes}
 use Rattle.vpn_base.specs.declared.address.Addr.{Addr}
-use Rattle.vpn_base.specs.declared.names.Cause.TheVariants as causes
-use Rattle.vpn_base.specs.declared.names.Conn.{Conn}
 use Rattle.vpn_base.specs.declared.names.Draw.{Draw}
 use Rattle.vpn_base.specs.declared.names.Malformed.{Malformed}
-use Rattle.vpn_links.specs.Actions.{Action, Report, Say, Stop, on_wire}
+use Rattle.vpn_links.specs.Actions.{Report, Say, Stop, on_wire}
 use Rattle.vpn_links.specs.declared.events.Event.{Event}
 use Rattle.vpn_links.specs.declared.events.Kind.{Kind}
 use Rattle.vpn_links.specs.declared.events.Kind.TheVariants.{Datagram, EngineText, EnginePlain, EngineUp, EngineDown, DeviceIn, DeviceReady, File, Tick, Halt}
@@ -23,8 +21,8 @@ use Rattle.server_table.specs.Table.{Table}
 use Rattle.server_table.specs.Courses.{Course, Staged, outs}
 use Rattle.server_table.specs.ControlDatagrams.{ControlPacket, first_of}
 use Rattle.server_table.specs.DataDatagrams.{FromWire}
-use Rattle.server_table.specs.Step.{came, course_begun, course_of, datagram_as, device_came, device_passed, halted, is_over, line_came, line_said, step, step_if}
-use Rattle.control_laws.specs.Tests.{GoesTo, IsControlPacket}
+use Rattle.server_table.specs.Step.{came, course_begun, datagram_as, device_came, device_passed, is_over, line_came, line_said, step, step_if}
+use Rattle.control_laws.specs.Tests.{IsControlPacket}
 use Rattle.control_laws.specs.internal.LinkReads.{LinkReads}
 use Rattle.control_laws.proofs.Actions.{are_quiet}
 use Rattle.control_laws.proofs.Lines.{lines_of}

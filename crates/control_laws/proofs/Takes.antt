@@ -5,20 +5,19 @@ use Rattle.std.proofs.lemmas.Bool.{eq-eqb, eqb-true, false≢true, lt-ltb}
 use Rattle.vpn_base.specs.declared.names.Conn.{Conn}
 use Rattle.vpn_base.specs.declared.names.Role.{Role}
 use Rattle.vpn_base.specs.declared.names.Sid.{Sid}
-use Rattle.vpn_links.specs.Actions.{Action}
 use Rattle.opcode_codec.specs.ControlText.{ControlForm}
 use Rattle.reliable_recv.specs.Receiving.{Arrival, payloads, text}
 use Rattle.control_link.specs.Calls.{after_text, next_text, received}
 use Rattle.control_link.specs.Envelope.{EnvelopeHistory}
 use Rattle.control_link.specs.Links.{Link}
-use Rattle.control_link.specs.Reading.{IsReadUp, read_here, read_with, taken_with, text_read_of, texts_here}
+use Rattle.control_link.specs.Reading.{IsReadUp, read_here, read_with, taken_with, texts_here}
 use Rattle.peer_table.specs.ControlPackets.{puts}
 use Rattle.peer_table.specs.KeySessions.{Session}
 use Rattle.peer_table.specs.Outboxes.{actions_of}
 use Rattle.server_table.specs.Courses.{opened_by}
 use Rattle.control_laws.specs.Puts.{only_if, opened_after, put_if, put_on}
 use Rattle.control_laws.specs.internal.LinkReads.{LinkReads}
-use Rattle.control_laws.proofs.Lines.{Line, line_of}
+use Rattle.control_laws.proofs.Lines.{line_of}
 use Rattle.control_laws.proofs.Kept.{TakesLine}
 
 -- ---- what is put
