@@ -13,6 +13,7 @@ pub mod KeptExchange
 pub mod KeptEngine
 pub mod KeptTime
 pub mod KeptData
+pub mod Live
 pub mod Placed
 pub mod KeptTaking
 pub mod KeptControl
