@@ -1,5 +1,5 @@
 -- A control packet that comes, by the client that it is of, or that it admits.
-use Rattle.std.proofs.Common.{◌≡◌, ℕ, zero, suc, ◌==◌, Bool, true, false, List, [], ◌∷◌, ◌++◌, length, Option, Some, None, refl, sym, ap, ◌∙◌, subst, Result, Ok, Err, if◌then◌else◌}
+use Rattle.std.proofs.Common.{◌≡◌, ℕ, zero, suc, ◌==◌, Bool, true, false, List, [], ◌∷◌, ◌++◌, length, slice_get, Option, Some, None, refl, sym, ap, ◌∙◌, subst, Result, Ok, Err, if◌then◌else◌}
 use Rattle.std.specs.Prelude.{◌&&◌}
 use Rattle.std.proofs.lemmas.Bool.{and_parts, eqb-true, false≢true}
 use Rattle.vpn_base.specs.declared.address.Addr.{Addr}
@@ -25,7 +25,7 @@ use Rattle.server_table.specs.Lookups.{by_session, client_here, has_session, is_
 use Rattle.server_table.specs.Courses.{Course, reported}
 use Rattle.server_table.specs.DataDatagrams.{FromWire}
 use Rattle.server_table.specs.ControlDatagrams.{ControlPacket, admitted, admitted_unless_full, begins_client, client_begun, client_wraps, control_arrived, control_at, control_read, control_unwrapped, first_of, is_client_reset, of_nobody, opened_for, session_begun}
-use Rattle.control_laws.specs.Tests.{GoesTo, IsControlPacket, IsPlaced, Known, Live, New, Next, carried_kid, wraps_of_clients}
+use Rattle.control_laws.specs.Tests.{GoesTo, IsControlPacket, Known, New, carried_kid, wraps_of_clients}
 use Rattle.control_laws.specs.internal.LinkReads.{LinkReads}
 use Rattle.control_laws.proofs.Actions.{none_some, some_same}
 use Rattle.control_laws.proofs.Lines.{LinePut, client_lines, get_changed, get_last, get_past, joined_put, line_in, lines_of, map_append, map_changed}
@@ -33,7 +33,7 @@ use Rattle.control_laws.proofs.Kept.{Before, Kept, begun_line}
 use Rattle.control_laws.proofs.Begins.{begins_kept}
 use Rattle.control_laws.proofs.Keeps.{at_place, did_kept, here_at, with_session}
 use Rattle.control_laws.proofs.KeptTaking.{to_client_kept}
-use Rattle.control_laws.proofs.Placed.{begins_parts, first_is, placed_kid}
+use Rattle.control_laws.proofs.Placed.{FoundLive, FoundNext, IsFound, begins_parts, first_is, found_placed, none_passes, placed_kid}
 
 -- ---- the client that is admitted
 
@@ -41,11 +41,11 @@ abbrev pub new_client : Addr → Course → Draw → Client
 new_client from c draw = with_session (session_begun c.table draw).peer (client_begun c.table from (session_begun c.table draw).peer)
 
 -- it has one session
-new_first : (from : Addr) (c : Course) (draw : Draw) (t : Table) (r : ControlPacket) (k : ℕ) → IsPlaced t (new_client from c draw) r k → k ≡ 0
+new_first : (from : Addr) (c : Course) (draw : Draw) (t : Table) (r : ControlPacket) (k : ℕ) → IsFound t (new_client from c draw) r k → k ≡ 0
 unfolding began newest_is_finished
 new_first from c draw t r zero placed = refl
-new_first from c draw t r (suc k) (Live s there live) = absurd (none_some there)
-new_first from c draw t r (suc k) (Next none begins next) = absurd (false≢true (begins_parts (new_client from c draw) r begins).finished)
+new_first from c draw t r (suc k) (FoundLive s there live) = absurd (none_some there)
+new_first from c draw t r (suc k) (FoundNext none begins next) = absurd (false≢true (begins_parts (new_client from c draw) r begins).finished)
 
 new_is : (from : Addr) (c : Course) (draw : Draw) (x : Client) → client_here (opened_for from c (session_begun c.table draw)).table (length c.table.clients) ≡ Some x →
     new_client from c draw ≡ x
@@ -84,6 +84,11 @@ found_sends t from sid n x found here =
     let same : f.item ≡ x = some_same (sym f.there ∙ (here_at t n x here).there) in
     subst (λ y. has_session from sid y ≡ true) same f.passed
 
+-- where nobody is found nobody has them
+nobody_passes : (t : Table) (from : Addr) (sid : Sid) → by_session t from sid ≡ None → (m : ℕ) (y : Client) → slice_get t.clients m ≡ Some y → has_session from sid y ≡ false
+unfolding by_session
+nobody_passes t from sid none m y there = none_passes (has_session from sid) t.clients none m y there
+
 module _ (reads : LinkReads) (up : IsReadUp begun) {brought : ℕ → ℕ → Arrival → Type 0} {base : Before} where
   opened_kept : (from : Addr) (c : Course) (draw : Draw) → Kept brought base c → Kept brought base (opened_for from c (session_begun c.table draw))
   unfolding began
@@ -102,12 +107,12 @@ module _ (reads : LinkReads) (up : IsReadUp begun) {brought : ℕ → ℕ → Ar
       let e = opened_for d.from c (session_begun c.table draw) in
       to_client_kept reads up r n e
       (λ x here k session id carries. goes n k (New (record {
-        nobody = nobody;
+        nobody = nobody_passes c.table d.from (sid_of r.packet) nobody;
         begins = begins;
         has_room = room;
         used = used;
         next = refl;
-        first = new_first d.from c draw e.table r k (subst (λ y. IsPlaced e.table y r k) (sym (new_is d.from c draw x here)) session.placed);
+        first = new_first d.from c draw e.table r k (subst (λ y. IsFound e.table y r k) (sym (new_is d.from c draw x here)) session.placed);
       })) id carries)
       (opened_kept d.from c draw is)
 
@@ -136,7 +141,7 @@ module _ (reads : LinkReads) (up : IsReadUp begun) {brought : ℕ → ℕ → Ar
         there = (here_at c.table n x here).there;
         sends = found_sends c.table d.from (sid_of r.packet) n x found here;
         fresh = session.fresh;
-        placed = session.placed;
+        placed = found_placed c.table x r k session.placed;
       })) id carries)
       is
   at_kept d draw op r c None found goes is = nobody_kept d draw op r c (begins_client op r) refl found goes is

@@ -21,7 +21,6 @@ use Rattle.server_table.specs.Lookups.{cid, client_here}
 use Rattle.server_table.specs.Courses.{Course, acted, client_changed}
 use Rattle.server_table.specs.DataDatagrams.{went_to}
 use Rattle.server_table.specs.ControlDatagrams.{ControlPacket, control_answered, control_for, control_session, incoming, to_client, with_fresh}
-use Rattle.control_laws.specs.Tests.{IsPlaced, Live, Next}
 use Rattle.control_laws.specs.internal.LinkReads.{LinkReads}
 use Rattle.control_laws.proofs.Calls.{are_still, next_put, none_next}
 use Rattle.control_laws.proofs.Came.{Began, ControlCame, NotTaken, Took, what_came}
@@ -30,12 +29,13 @@ use Rattle.control_laws.proofs.Kept.{Before, Kept, begun_line, takes_kept}
 use Rattle.control_laws.proofs.Begins.{begins_kept}
 use Rattle.control_laws.proofs.Keeps.{acted_put, count_kept, did_kept, effects_kept, here_at, line_put, line_there, quiet_acted, same_kept, with_session}
 use Rattle.control_laws.proofs.KeptEndings.{turned_kept}
+use Rattle.control_laws.proofs.Placed.{FoundLive, FoundNext, IsFound}
 use Rattle.control_laws.proofs.Takes.{puts_opened, takes_line}
 
 -- the packet is fresh as a wrap at this client, and is for its session of this number
 pub record IsForSession (t : Table) (x : Client) (r : ControlPacket) (k : ℕ) : Type 0 where
   pub fresh : long_freshness x.session.envelope.accepted r.packet.time r.packet.id (record { 0 = t.moment }) ≡ Fresh
-  pub placed : IsPlaced t x r k
+  pub placed : IsFound t x r k
 
 -- what the packet brings to a session of client n that takes it is brought
 abbrev pub BringsTo : (ℕ → ℕ → Arrival → Type 0) → ℕ → ControlPacket → Table → Client → Type 0
@@ -103,10 +103,10 @@ module _ (reads : LinkReads) (up : IsReadUp begun) {brought : ℕ → ℕ → Ar
       quiet_acted n x o c here (record { lines = same; still = ap are_still none }) is
   came_acted r n x c o here brings (Took k s fresh there live came) is =
       subst (λ o. Kept brought base (acted n x.address o c)) (sym came)
-      (took_acted r n x c k s here there (brings k (record { fresh = fresh; placed = Live s there live })) is)
+      (took_acted r n x c k s here there (brings k (record { fresh = fresh; placed = FoundLive s there live })) is)
   came_acted r n x c o here brings (Began fresh none begins came) is =
       subst (λ o. Kept brought base (acted n x.address o c)) (sym came)
-      (began_acted r n x c here (brings (length x.session.sessions) (record { fresh = fresh; placed = Next none begins refl })) is)
+      (began_acted r n x c here (brings (length x.session.sessions) (record { fresh = fresh; placed = FoundNext none begins refl })) is)
 
   answered_kept : (n : ℕ) (x : Client) (i : Incoming) (c : Course) (answer : Result Turn Refused) → Kept brought base c → Kept brought base (control_answered n x i c answer)
   answered_kept n x i c (Ok turn) is =

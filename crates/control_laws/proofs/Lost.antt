@@ -28,25 +28,25 @@ use Rattle.peer_table.specs.declared.outcomes.Turn.TheVariants.{Going, Ignored, 
 use Rattle.peer_table.specs.ControlPackets.{Incoming, begun_by, control_came, judged, next_session, placed, sender, sid_of, taken_as, taken_by, with_next}
 use Rattle.peer_table.specs.KeySessions.{Session, kid_of, live_with, usable}
 use Rattle.peer_table.specs.Peer.{Outcome, Peer, began}
-use Rattle.peer_table.specs.Places.{changed_at, earlier, first_place}
+use Rattle.peer_table.specs.Places.{changed_at, first_place}
 use Rattle.server_table.specs.Table.{Client, Table}
 use Rattle.server_table.specs.Lookups.{by_session, client_here, has_session, if_here, is_address, is_full, is_sid}
 use Rattle.server_table.specs.Courses.{Course, acted, reported}
 use Rattle.server_table.specs.DataDatagrams.{FromWire}
 use Rattle.server_table.specs.Endings.{ended, ended_as, gone, turned}
 use Rattle.server_table.specs.ControlDatagrams.{ControlPacket, admitted, admitted_unless_full, begins_client, client_begun, client_wraps, control_acted, control_answered, control_arrived, control_at, control_for, control_read, control_unwrapped, incoming, of_nobody, opened_for, session_begun, to_client, with_fresh}
-use Rattle.server_table.specs.Sound.{AtMostOne, IsSound}
+use Rattle.server_table.specs.Sound.{AreOrderly, AtMostOne, IsSound}
 use Rattle.server_table.specs.Step.{came, course_begun, datagram_as, is_over, step, step_if}
 use Rattle.control_laws.specs.Sessions.{session_in, session_of, taken_in}
-use Rattle.control_laws.specs.Tests.{GoesTo, IsControlPacket, IsPlaced, Known, Live, MeetsAll, New, Next, carried_kid, wraps_of_clients}
+use Rattle.control_laws.specs.Tests.{GoesTo, IsControlPacket, Known, MeetsAll, New, carried_kid, wraps_of_clients}
 use Rattle.control_laws.specs.internal.LinkReads.{LinkReads}
-use Rattle.control_laws.proofs.Actions.{none_some, some_same}
+use Rattle.control_laws.proofs.Actions.{some_same}
 use Rattle.control_laws.proofs.Calls.{closed_lines}
 use Rattle.control_laws.proofs.Lines.{Line, client_lines, get_changed, get_last, get_past, line_at, line_of, lines_in, lines_of, map_changed}
 use Rattle.control_laws.proofs.Keeps.{line_there, with_session}
 use Rattle.control_laws.proofs.KeptControl.{new_client, new_kid}
 use Rattle.control_laws.proofs.KeptTaking.{taken_put, took}
-use Rattle.control_laws.proofs.Placed.{first_is}
+use Rattle.control_laws.proofs.Placed.{FoundLive, FoundNext, IsFound, first_is, none_first, none_passes, placed_found}
 
 -- ---- what follows a packet that was taken leaves all lines
 
@@ -128,17 +128,17 @@ module _ (reads : LinkReads) (up : IsReadUp begun) where
   none_past (s ∷ all) (suc k) e = none_past all k (omega (arith, e))
 
   placed_took : (r : ControlPacket) (c : Course) (x : Client) (k : ℕ) → long_freshness x.session.envelope.accepted r.packet.time r.packet.id (record { 0 = c.table.moment }) ≡ Fresh →
-      IsPlaced c.table x r k → ((s : Session) → slice_get x.session.sessions k ≡ Some s → IsReadUp s.link.receiving) →
+      IsFound c.table x r k → ((s : Session) → slice_get x.session.sessions k ≡ Some s → IsReadUp s.link.receiving) →
       TookIn (control_came x.session (incoming r c x)).peer k (taken_in (slice_get x.session.sessions k)) r
   unfolding control_came
-  placed_took r c x k fresh (Live s there live) waits =
+  placed_took r c x k fresh (FoundLive s there live) waits =
       let i = incoming r c x in
       let came : control_came x.session i ≡ taken_as x.session i k (link.received s.link x.session.envelope r.form (sender i) c.table.moment) =
       ap (judged x.session i) fresh ∙ ap (placed x.session i) live ∙ ap (taken_by x.session i k) there in
       subst (λ (o : Outcome (Result Turn Refused)). TookIn o.peer k (taken_in (slice_get x.session.sessions k)) r) (sym came)
       (subst (λ o. TookIn (taken_as x.session i k (link.received s.link x.session.envelope r.form (sender i) c.table.moment)).peer k (taken_in o) r) (sym there)
       (live_took r c x k s there (waits s there)))
-  placed_took r c x k fresh (Next none begins next) waits =
+  placed_took r c x k fresh (FoundNext none begins next) waits =
       let i = incoming r c x in
       let came : control_came x.session i ≡ begun_by x.session i true =
       ap (judged x.session i) fresh ∙ ap (placed x.session i) none ∙ ap (begun_by x.session i) begins in
@@ -147,7 +147,7 @@ module _ (reads : LinkReads) (up : IsReadUp begun) where
       (subst (λ j. TookIn (begun_by x.session i true).peer j [] r) (sym next) (next_took r c x)))
 
   pub client_took : (r : ControlPacket) (n k : ℕ) (c : Course) (x : Client) → slice_get c.table.clients n ≡ Some x → client_here c.table n ≡ Some x →
-      long_freshness x.session.envelope.accepted r.packet.time r.packet.id (record { 0 = c.table.moment }) ≡ Fresh → IsPlaced c.table x r k →
+      long_freshness x.session.envelope.accepted r.packet.time r.packet.id (record { 0 = c.table.moment }) ≡ Fresh → IsFound c.table x r k →
       ((s : Session) → slice_get x.session.sessions k ≡ Some s → IsReadUp s.link.receiving) →
       TookLine (lines_of (to_client r n c).table.clients) n k (taken_in (slice_get x.session.sessions k)) r
   unfolding to_client
@@ -161,17 +161,6 @@ module _ (reads : LinkReads) (up : IsReadUp begun) where
 
 -- ---- who is found
 
-none_step : {X : Type 0} (passes : X → Bool) (x : X) (xs : List X) (b : Bool) (o : Option ℕ) → passes x ≡ b → earlier b o ≡ None → (b ≡ false) × (o ≡ None)
-none_step passes x xs true o is e = absurd (none_some (sym e))
-none_step passes x xs false None is e = (refl, refl)
-none_step passes x xs false (Some m) is e = absurd (none_some (sym e))
-
-none_passes : {X : Type 0} (passes : X → Bool) (xs : List X) → first_place passes xs ≡ None → (i : ℕ) (x : X) → slice_get xs i ≡ Some x → passes x ≡ false
-none_passes passes [] e i x there = absurd (none_some there)
-none_passes passes (y ∷ xs) e zero x there = ap passes (sym (some_same there)) ∙ (none_step passes y xs (passes y) (first_place passes xs) refl e).0
-none_passes passes (y ∷ xs) e (suc i) x there =
-    none_passes passes xs (none_step passes y xs (passes y) (first_place passes xs) refl e).1 i x there
-
 found_first : (passes : Client → Bool) (clients : List Client) (n : ℕ) (x : Client) (o : Option ℕ) → first_place passes clients ≡ o → AtMostOne passes clients →
     slice_get clients n ≡ Some x → passes x ≡ true → o ≡ Some n
 found_first passes clients n x None first one there is = absurd (false≢true (sym (none_passes passes clients first n x there) ∙ is))
@@ -182,6 +171,10 @@ pub found_by : (t : Table) (from : Addr) (sid : Sid) (n : ℕ) (x : Client) → 
     by_session t from sid ≡ Some n
 unfolding by_session
 found_by t from sid n x one there is = found_first (has_session from sid) t.clients n x (first_place (has_session from sid) t.clients) refl one there is
+
+pub nobody_by : (t : Table) (from : Addr) (sid : Sid) → ((m : ℕ) (y : Client) → slice_get t.clients m ≡ Some y → has_session from sid y ≡ false) → by_session t from sid ≡ None
+unfolding by_session
+nobody_by t from sid fails = none_first (has_session from sid) t.clients (first_place (has_session from sid) t.clients) refl fails
 
 if_here_some : (x : Client) (b : Bool) → x.is_here ≡ b → b ≡ true → (if b then Some x else None) ≡ Some x
 if_here_some x true is e = refl
@@ -244,7 +237,7 @@ new_took reads up d draw r c used kid =
     ap taken_in s.there ∙ ap (λ (side : Receiving). side.taken) s.side in
     subst (λ all. TookLine (lines_of (admitted d draw r c).table.clients) n 0 all r) taken
     (client_took reads up r n 0 e x there (is_here_at e.table n x there refl) (new_fresh d.from c draw r.packet.time r.packet.id (record { 0 = e.table.moment }) used)
-    (Live s.session s.there (new_live d.from c draw e.table.moment (carried_kid r) kid))
+    (FoundLive s.session s.there (new_live d.from c draw e.table.moment (carried_kid r) kid))
     (λ z at. subst (λ (z : Session). IsReadUp z.link.receiving) (some_same (sym s.there ∙ at)) (subst IsReadUp (sym s.side) up)))
 
 -- ---- the step
@@ -297,11 +290,11 @@ is_here_of from sid x is =
 
 module _ (reads : LinkReads) (up : IsReadUp begun) where
   goes_took : (lacks : Bool) (t : Table) (event : Event) (from : Addr) (op : Opcode) (r : ControlPacket) (n k : ℕ) (bytes : List ℕ) →
-      ((s : Session) → session_of t n k ≡ Some s → IsReadUp s.link.receiving) → ((from : Addr) (sid : Sid) → AtMostOne (has_session from sid) t.clients) →
+      ((s : Session) → session_of t n k ≡ Some s → IsReadUp s.link.receiving) → ((from : Addr) (sid : Sid) → AtMostOne (has_session from sid) t.clients) → AreOrderly t.clients →
       GoesTo (course_begun t event).table from op r n k →
       TookLine (lines_of (control_at (record { from = from; bytes = bytes; lacks = lacks }) event.draw op r (course_begun t event)
       (by_session (course_begun t event).table from (sid_of r.packet))).table.clients) n k (taken_in (session_of t n k)) r
-  goes_took lacks t event from op r n k bytes waits one (Known of) =
+  goes_took lacks t event from op r n k bytes waits one orderly (Known of) =
       let c = course_begun t event in
       let d : FromWire = record { from = from; bytes = bytes; lacks = lacks } in
       let x = of.client in
@@ -309,13 +302,13 @@ module _ (reads : LinkReads) (up : IsReadUp begun) where
       subst (λ found. TookLine (lines_of (control_at d event.draw op r c found).table.clients) n k (taken_in (session_of t n k)) r)
       (sym (found_by c.table from (sid_of r.packet) n x (one from (sid_of r.packet)) of.there of.sends))
       (subst (λ o. TookLine (lines_of (to_client r n c).table.clients) n k (taken_in o) r) (sym same)
-      (client_took reads up r n k c x of.there (is_here_at c.table n x of.there (is_here_of from (sid_of r.packet) x of.sends)) of.fresh of.placed
+      (client_took reads up r n k c x of.there (is_here_at c.table n x of.there (is_here_of from (sid_of r.packet) x of.sends)) of.fresh (placed_found c.table x r k (orderly n x of.there) of.placed)
       (λ s at. waits s (same ∙ at))))
-  goes_took lacks t event from op r n k bytes waits one (New admits) =
+  goes_took lacks t event from op r n k bytes waits one orderly (New admits) =
       let c = course_begun t event in
       let d : FromWire = record { from = from; bytes = bytes; lacks = lacks } in
       subst (λ (e : Course). TookLine (lines_of e.table.clients) n k (taken_in (session_of t n k)) r)
-      (sym (reaches_admitted d event.draw op r c admits.nobody admits.begins admits.has_room admits.used))
+      (sym (reaches_admitted d event.draw op r c (nobody_by c.table from (sid_of r.packet) admits.nobody) admits.begins admits.has_room admits.used))
       (subst (λ o. TookLine (lines_of (admitted d event.draw r c).table.clients) n k (taken_in o) r) (sym (session_past t n k admits.next))
       (subst (λ m. TookLine (lines_of (admitted d event.draw r c).table.clients) m k [] r) (sym admits.next)
       (subst (λ j. TookLine (lines_of (admitted d event.draw r c).table.clients) (length c.table.clients) j [] r) (sym admits.first)
@@ -327,4 +320,4 @@ module _ (reads : LinkReads) (up : IsReadUp begun) where
   step_took lacks key t event r n k same sound waits meets =
       subst (λ (c : Course). TookLine (lines_of c.table.clients) n k (taken_in (session_of t n k)) r)
       (sym (reaches lacks key t event meets.from meets.op r same meets.goes_on meets.packet))
-      (goes_took lacks t event meets.from meets.op r n k meets.packet.bytes waits sound.sessions meets.goes)
+      (goes_took lacks t event meets.from meets.op r n k meets.packet.bytes waits sound.sessions sound.orderly meets.goes)

@@ -1,32 +1,33 @@
 -- The session that takes a control packet has the key id that it carries.
-use Rattle.std.proofs.Common.{◌≡◌, ℕ, zero, suc, ◌==◌, Bool, true, false, List, [], ◌∷◌, length, pred, Option, Some, None, is_some, refl, sym, ap, ◌∙◌, subst, if◌then◌else◌}
+use Rattle.std.proofs.Common.{◌≡◌, ℕ, zero, suc, ◌==◌, Bool, true, false, List, [], ◌∷◌, length, pred, Option, Some, None, is_some, refl, sym, ap, ◌∙◌, subst}
 use Rattle.std.specs.Prelude.{◌&&◌, slice_get}
-use Rattle.std.specs.List.{find}
 use Rattle.std.proofs.lemmas.Bool.{and_parts, eqb-true, false≢true}
 use Rattle.opcode_codec.specs.FirstByte.{opcode_of}
 use Rattle.peer_table.specs.ControlPackets.{is_first, is_soft_reset, newest_is_finished}
-use Rattle.peer_table.specs.KeySessions.{kid_of, live_with, newest, usable}
+use Rattle.peer_table.specs.KeySessions.{Session, kid_of, live_with}
+use Rattle.peer_table.specs.Orderly.{IsOrderly}
 use Rattle.peer_table.specs.Places.{earlier, first_place}
 use Rattle.server_table.specs.Table.{Client, Table}
 use Rattle.server_table.specs.ControlDatagrams.{ControlPacket}
 use Rattle.control_laws.specs.Tests.{IsPlaced, Live, Next, begins_next_of, carried_kid}
 use Rattle.control_laws.proofs.Actions.{none_some, some_same}
+use Rattle.control_laws.proofs.Live.{found_live, live_found, live_none, live_there, none_live}
 
--- what is found passes
-found_step : (passes : ℕ → Bool) (x : ℕ) (xs : List ℕ) (k : ℕ) (b : Bool) → passes x ≡ b → (if b then Some x else find passes xs) ≡ Some k →
-    (find passes xs ≡ Some k → passes k ≡ true) → passes k ≡ true
-found_step passes x xs k true is e behind = ap passes (sym (some_same e)) ∙ is
-found_step passes x xs k false is e behind = behind e
+-- the session of a client that a packet comes to, as it is looked for
+pub data IsFound (t : Table) (x : Client) (r : ControlPacket) (k : ℕ) : Type 0 where
+  FoundLive : (s : Session) → slice_get x.session.sessions k ≡ Some s → live_with x.session.timers t.moment x.session.sessions (carried_kid r) ≡ Some k → IsFound t x r k
+  FoundNext : live_with x.session.timers t.moment x.session.sessions (carried_kid r) ≡ None → begins_next_of x r ≡ true → k ≡ length x.session.sessions → IsFound t x r k
 
-found_passes : (passes : ℕ → Bool) (xs : List ℕ) (k : ℕ) → find passes xs ≡ Some k → passes k ≡ true
-found_passes passes [] k e = absurd (none_some e)
-found_passes passes (x ∷ xs) k e = found_step passes x xs k (passes x) refl e (λ rest. found_passes passes xs k rest)
+pub found_placed : (t : Table) (x : Client) (r : ControlPacket) (k : ℕ) → IsFound t x r k → IsPlaced t x r k
+found_placed t x r k (FoundLive s there live) =
+    let f = found_live x.session.timers t.moment x.session.sessions (carried_kid r) k live in Live f.0 f.1
+found_placed t x r k (FoundNext none begins next) = Next (none_live x.session.timers t.moment x.session.sessions (carried_kid r) none) begins next
 
-pub live_kid : (t : Table) (x : Client) (kid k : ℕ) → live_with x.session.timers t.moment x.session.sessions kid ≡ Some k → kid_of k ≡ kid
-unfolding live_with
-live_kid t x kid k live =
-    eqb-true (kid_of k) kid
-    (found_passes (λ n. kid_of n == kid) (newest x.session.sessions ∷ usable x.session.timers t.moment x.session.sessions) k live)
+pub placed_found : (t : Table) (x : Client) (r : ControlPacket) (k : ℕ) → IsOrderly x.session.sessions → IsPlaced t x r k → IsFound t x r k
+placed_found t x r k orderly (Live is kid) =
+    let s = live_there x.session.timers t.moment x.session.sessions k orderly is in
+    FoundLive s.session s.there (live_found x.session.timers t.moment x.session.sessions (carried_kid r) k orderly is kid)
+placed_found t x r k orderly (Next none begins next) = FoundNext (live_none x.session.timers t.moment x.session.sessions (carried_kid r) none) begins next
 
 -- what begins the next session
 pub record BeginsNext (x : Client) (r : ControlPacket) : Type 0 where
@@ -45,7 +46,7 @@ begins_parts x r is =
     record { kid = eqb-true (carried_kid r) (kid_of (length x.session.sessions)) c.1; finished = a.1 }
 
 pub placed_kid : (t : Table) (x : Client) (r : ControlPacket) (k : ℕ) → IsPlaced t x r k → carried_kid r ≡ kid_of k
-placed_kid t x r k (Live s there live) = sym (live_kid t x (carried_kid r) k live)
+placed_kid t x r k (Live is kid) = kid
 placed_kid t x r k (Next none begins next) = (begins_parts x r begins).kid ∙ ap kid_of (sym next)
 
 -- ---- first places
@@ -74,3 +75,19 @@ first_step passes x xs false (Some m) (suc n) is e behind =
 pub first_is : {X : Type 0} (passes : X → Bool) (xs : List X) (n : ℕ) → first_place passes xs ≡ Some n → FirstAt passes xs n
 first_is passes [] n e = absurd (none_some e)
 first_is passes (x ∷ xs) n e = first_step passes x xs (passes x) (first_place passes xs) n refl e (λ m there. first_is passes xs m there)
+
+none_step : {X : Type 0} (passes : X → Bool) (x : X) (xs : List X) (b : Bool) (o : Option ℕ) → passes x ≡ b → earlier b o ≡ None → (b ≡ false) × (o ≡ None)
+none_step passes x xs true o is e = absurd (none_some (sym e))
+none_step passes x xs false None is e = (refl, refl)
+none_step passes x xs false (Some m) is e = absurd (none_some (sym e))
+
+pub none_passes : {X : Type 0} (passes : X → Bool) (xs : List X) → first_place passes xs ≡ None → (i : ℕ) (x : X) → slice_get xs i ≡ Some x → passes x ≡ false
+none_passes passes [] e i x there = absurd (none_some there)
+none_passes passes (y ∷ xs) e zero x there = ap passes (sym (some_same there)) ∙ (none_step passes y xs (passes y) (first_place passes xs) refl e).0
+none_passes passes (y ∷ xs) e (suc i) x there =
+    none_passes passes xs (none_step passes y xs (passes y) (first_place passes xs) refl e).1 i x there
+
+-- where nobody passes there is no first place
+pub none_first : {X : Type 0} (passes : X → Bool) (xs : List X) (o : Option ℕ) → first_place passes xs ≡ o → ((i : ℕ) (x : X) → slice_get xs i ≡ Some x → passes x ≡ false) → o ≡ None
+none_first passes xs None e fails = refl
+none_first passes xs (Some n) e fails = let f = first_is passes xs n e in absurd (false≢true (sym (fails n f.item f.there) ∙ f.passed))

@@ -1,5 +1,6 @@
 -- The tests that a control packet meets whose payload is taken, and the key session that takes it.
-use Rattle.std.specs.Prelude.{◌≡◌, ℕ, ◌%◌, ◌==◌, ◌&&◌, is_some, Bool, true, false, List, length, Some, None, slice_get, Ok}
+use Rattle.std.specs.Prelude.{◌≡◌, ◌≢◌, ℕ, ◌%◌, ◌==◌, ◌&&◌, is_some, Bool, true, false, List, ◌∷◌, length, Some, slice_get, Ok}
+use Rattle.std.specs.List.{list_any}
 use Rattle.vpn_base.specs.declared.address.Addr.{Addr}
 use Rattle.vpn_base.specs.declared.names.Freshness.TheVariants.{Fresh}
 use Rattle.vpn_base.specs.declared.names.Role.TheVariants.{Server}
@@ -16,9 +17,9 @@ use Rattle.tls_crypt.specs.Packets.{Wrapping}
 use Rattle.tls_crypt.specs.Unwrapping.{unwrapping}
 use Rattle.tls_crypt.specs.Wrapped.{half, keys_of, read_half, wrapped}
 use Rattle.peer_table.specs.ControlPackets.{is_first, is_soft_reset, newest_is_finished, sid_of}
-use Rattle.peer_table.specs.KeySessions.{Session, kid_of, live_with}
+use Rattle.peer_table.specs.KeySessions.{kid_of, newest, usable}
 use Rattle.server_table.specs.Table.{Client, Table}
-use Rattle.server_table.specs.Lookups.{by_session, has_session, is_full}
+use Rattle.server_table.specs.Lookups.{has_session, is_full}
 use Rattle.server_table.specs.ControlDatagrams.{ControlPacket, begins_client}
 use Rattle.server_table.specs.Step.{course_begun, is_over}
 
@@ -51,10 +52,15 @@ begins_next_of x r =
     is_soft_reset (opcode_of r.packet.first) && (carried_kid r == kid_of (length x.session.sessions)) && is_first r.form.id
     && newest_is_finished (is_some x.established) x.session.sessions
 
--- The client's key session of this number takes a packet: it is the live one with the key id that the packet carries, or the next one, which the packet begins.
+-- whether a client's key session is live: it is the newest one or a usable one
+abbrev pub is_live : Table → Client → ℕ → Bool
+is_live t x k = list_any (λ n. n == k) (newest x.session.sessions ∷ usable x.session.timers t.moment x.session.sessions)
+
+-- The client's key session of this number takes a packet: it is live and has the key id that the packet carries, or no live one has it and the packet
+-- begins the next one.
 pub data IsPlaced (t : Table) (x : Client) (r : ControlPacket) (k : ℕ) : Type 0 where
-  Live : (s : Session) → slice_get x.session.sessions k ≡ Some s → live_with x.session.timers t.moment x.session.sessions (carried_kid r) ≡ Some k → IsPlaced t x r k
-  Next : live_with x.session.timers t.moment x.session.sessions (carried_kid r) ≡ None → begins_next_of x r ≡ true → k ≡ length x.session.sessions → IsPlaced t x r k
+  Live : is_live t x k ≡ true → carried_kid r ≡ kid_of k → IsPlaced t x r k
+  Next : ((j : ℕ) → is_live t x j ≡ true → carried_kid r ≢ kid_of j) → begins_next_of x r ≡ true → k ≡ length x.session.sessions → IsPlaced t x r k
 
 -- ---- the client
 
@@ -70,7 +76,7 @@ pub record IsOfClient (t : Table) (from : Addr) (r : ControlPacket) (n k : ℕ) 
 -- A packet admits the next client, whose session 0 takes it: no client has its address and session id, it is a client's reset with key id 0 and packet
 -- id 0 under a wrap id that is not 0, and not as many clients are here as may be.
 pub record Admits (t : Table) (from : Addr) (op : Opcode) (r : ControlPacket) (n k : ℕ) : Type 0 where
-  pub nobody : by_session t from (sid_of r.packet) ≡ None
+  pub nobody : (m : ℕ) (y : Client) → slice_get t.clients m ≡ Some y → has_session from (sid_of r.packet) y ≡ false
   pub begins : begins_client op r ≡ true
   pub has_room : is_full t ≡ false
   pub used : (r.packet.id == 0) ≡ false
