@@ -1,0 +1,5 @@
+pub mod Finding
+pub mod Entries
+pub mod Changes
+pub mod PeerIds
+pub mod internal

@@ -1,0 +1,5 @@
+//! What a server's core keeps.
+#![tactic(auto)]
+
+/// Nothing yet.
+pub fn nothing() {}
