@@ -1,2 +1,5 @@
 pub mod Places
 pub mod PeerIds
+pub mod Lists
+pub mod Pairs
+pub mod Rising

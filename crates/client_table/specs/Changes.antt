@@ -1,5 +1,5 @@
 -- How the entries of a table are found and changed.
-use Rattle.std.specs.Prelude.{ℕ, zero, suc, ◌==◌, not, Bool, true, false, List, [], ◌∷◌, length, option_map, find, Option, Some, None}
+use Rattle.std.specs.Prelude.{ℕ, zero, suc, ◌==◌, not, Bool, true, false, List, [], ◌∷◌, length, option_map, find, slice_get, Option, Some, None}
 use Rattle.vpn_base.specs.declared.address.Addr.{Addr}
 use Rattle.vpn_base.specs.declared.names.Cid.{Cid}
 use Rattle.vpn_base.specs.declared.names.Sid.{Sid}
@@ -19,6 +19,11 @@ earlier false (Some i) = Some (suc i)
 abbrev pub place_where : {X : Type 0} → (X → Bool) → List X → Option ℕ
 place_where passes [] = None
 place_where passes (x ∷ xs) = earlier (passes x) (place_where passes xs)
+
+-- the item at a place, if there is one
+abbrev pub item_at : {X : Type 0} → List X → Option ℕ → Option X
+item_at xs None = None
+item_at xs (Some i) = slice_get xs i
 
 -- the list with the item at a place changed, and as it was where there is no such place
 abbrev pub changed_at : {X : Type 0} → ℕ → (X → X) → List X → List X

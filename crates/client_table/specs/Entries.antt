@@ -1,38 +1,14 @@
--- What a table has: one list of entries, in order of admission.
-use Rattle.std.specs.Prelude.{◌≡◌, ◌-◌, ℕ, min, List, [], ◌∷◌, vec_len, vec_capacity}
-use Rattle.std.specs.Vec.{with_item}
+-- Clients as entries.
+use Rattle.std.specs.Prelude.{List, [], ◌∷◌}
 use Rattle.client_table.specs.declared.key.Key.{Key}
-use Rattle.client_table.specs.declared.table.ClientTable.{ClientTable}
-use Rattle.client_table.specs.internal.Sound.{same_length}
 
 -- a client of a table: what it is found by, and its value
 pub record Entry (V : Type 0) : Type 0 where
   pub key : Key
   pub value : V
 
-module _ {V : Type 0} where
-  -- keys with their values, place by place
-  abbrev pub entries : List Key → List V → List (Entry V)
-  entries (k ∷ keys) (v ∷ values) = record { key = k; value = v } ∷ entries keys values
-  entries (k ∷ keys) [] = []
-  entries [] values = []
-
-  -- the entries of a table
-  abbrev pub entries_of : ClientTable V → List (Entry V)
-  entries_of t = entries t.keys.items t.values.items
-
-  -- how many clients there may be
-  abbrev pub most_of : ClientTable V → ℕ
-  most_of t = t.most
-
-  -- how many were admitted so far, which is the number of the next one
-  abbrev pub admitted_by : ClientTable V → ℕ
-  admitted_by t = t.admitted
-
-  -- for how many more clients it has memory
-  abbrev pub spare_of : ClientTable V → ℕ
-  spare_of t = min (vec_capacity t.keys) (vec_capacity t.values) - vec_len t.keys
-
-  -- the table with another value at a place
-  abbrev pub with_value_at : ClientTable V → ℕ → V → ClientTable V
-  with_value_at t i w = record t { values = with_item t.values i w; paired = same_length t.keys t.values i w t.paired }
+-- keys with their values, place by place
+abbrev pub entries : {V : Type 0} → List Key → List V → List (Entry V)
+entries (k ∷ keys) (v ∷ values) = record { key = k; value = v } ∷ entries keys values
+entries (k ∷ keys) [] = []
+entries [] values = []

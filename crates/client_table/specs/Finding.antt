@@ -1,5 +1,5 @@
 -- How clients are found by their keys, each as the first that fits.
-use Rattle.std.specs.Prelude.{ℕ, zero, suc, ◌==◌, ◌&&◌, not, Bool, true, false, List, [], ◌∷◌, length, option_map, find, Option, Some, None}
+use Rattle.std.specs.Prelude.{ℕ, zero, suc, ◌==◌, ◌&&◌, nat_le, not, Bool, true, false, List, [], ◌∷◌, length, option_map, find, Option, Some, None}
 use Rattle.std.specs.List.{list_any}
 use Rattle.std.specs.Str.{bytes_eq}
 use Rattle.vpn_base.specs.declared.address.Addr.{Addr}
@@ -10,6 +10,10 @@ use Rattle.client_table.specs.declared.key.Key.{Key}
 -- whether a client has this number
 abbrev pub has_number : ℕ → Key → Bool
 has_number n k = k.number.0 == n
+
+-- whether it has this number or a later one
+abbrev pub is_from : ℕ → Key → Bool
+is_from n k = nat_le n k.number.0
 
 -- whether it has this peer id
 abbrev pub has_peer_id : ℕ → Key → Bool

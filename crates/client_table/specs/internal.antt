@@ -1,1 +1,3 @@
+-- What only this crate's own functions cite.
 pub mod Sound
+pub mod Pairs

@@ -1,7 +1,7 @@
 //! What a client is found by.
 
 ghost use Rattle.std.specs.Prelude.{◌≡◌};
-ghost use Rattle.client_table.specs.Finding.{has_name, has_number, has_peer_id, is_at};
+ghost use Rattle.client_table.specs.Finding.{has_name, has_number, has_peer_id, is_at, is_from};
 
 use vpn_base::{Addr, Cid, Sid, Text};
 
@@ -25,6 +25,12 @@ impl Key {
         ensures { result ≡ has_number number.0 self.now }
     {
         self.number.0 == number.0
+    }
+
+    pub(crate) fn is_from(&self, number: Cid) -> bool
+        ensures { result ≡ is_from number.0 self.now }
+    {
+        number.0 <= self.number.0
     }
 
     pub(crate) fn has_peer_id(&self, peer_id: u32) -> bool

@@ -1,9 +1,12 @@
 //! The clients of a server that are here, each with its value.
 #![tactic(auto)]
 
+mod calls;
+mod changes;
 mod key;
 mod search;
 mod table;
 
+pub use calls::Full;
 pub use key::Key;
 pub use table::ClientTable;

@@ -2,7 +2,7 @@
 
 ghost use Rattle.std.specs.Prelude.{◌≡◌, ℕ, ◌<◌, ◌≤◌, ◌^◌, length, find, option_map};
 ghost use Rattle.std.specs.List.{list_any, position};
-ghost use Rattle.client_table.specs.Finding.{has_name, has_number, has_peer_id, is_at};
+ghost use Rattle.client_table.specs.Finding.{has_name, has_number, has_peer_id, is_at, is_from};
 ghost use Rattle.client_table.specs.Changes.{place_where};
 ghost use Rattle.client_table.specs.PeerIds.{unused_from};
 
@@ -21,6 +21,14 @@ pub(crate) fn place_in(keys: &[Key], number: Cid) -> Option<usize>
     ensures { result ≡ place_where (has_number number.0) keys.now }
 {
     position_in(keys, number)
+}
+
+// The least number from this one on.
+pub(crate) fn number_from(keys: &[Key], number: Cid) -> Option<Cid>
+    ensures { result ≡ option_map (λ k. k.number) (find (is_from number.0) keys.now) }
+{
+    let key = keys.iter().find(|key| key.is_from(number))?;
+    Some(key.number)
 }
 
 // The number of the client with this peer id.

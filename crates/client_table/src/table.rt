@@ -1,22 +1,20 @@
 //! The table.
 
-ghost use Rattle.std.specs.Prelude.{◌≡◌, ◌<◌, length};
-ghost use Rattle.std.specs.Borrow.{Lends, sem};
+ghost use Rattle.std.specs.Prelude.{◌≡◌, length, true};
+ghost use Rattle.client_table.specs.internal.Sound.{are_below, rise_from};
 
 use crate::key::Key;
 use std::alloc::Global;
 
-/// The clients that are here.
+/// The clients that are here, each with a value of its own. Contracts see them as one list of entries, in
+/// order of admission. Every number is given once, and rises; every peer id lies below the most clients.
 #[derive(Drop)]
 pub struct ClientTable<V> {
-    most: u32,
-    admitted: u64,
-    keys: Vec<Key>,
-    values: Vec<V>,
+    pub(crate) most: u32,
+    pub(crate) admitted: u64,
+    pub(crate) keys: Vec<Key>,
+    pub(crate) values: Vec<V>,
     ghost paired: { length values.items ≡ length keys.items },
-}
-
-impl<V> ClientTable<V> {
-    ghost use Rattle.client_table.specs.Entries.{entries_of, with_value_at};
-    ghost use Rattle.client_table.specs.contracts.table.ClientTable.{the_row};
+    ghost rising: { rise_from 0 admitted keys.items ≡ true },
+    ghost peers: { are_below most keys.items ≡ true },
 }

@@ -1,21 +1,13 @@
--- What holds of every table.
-use Rattle.std.proofs.Common.{◌≡◌, ℕ, ◌+◌, ◌<◌, ◌≤◌, List, [], ◌∷◌, length, ◌∙◌}
-use Rattle.std.specs.Global.{Vec}
-use Rattle.std.specs.Vec.{with_item}
-use Rattle.std.specs.List.{AllByRecursion}
+-- What holds of the keys of every table.
+use Rattle.std.specs.Prelude.{ℕ, ◌+◌, ◌&&◌, nat_le, nat_lt, Bool, true, List, [], ◌∷◌}
 use Rattle.client_table.specs.declared.key.Key.{Key}
-use Rattle.std.proofs.lemmas.List.{length-set}
 
--- the values are as many as the keys, also where one of them is another
-pub same_length : {V : Type 0} (keys : Vec Key) (values : Vec V) (i : ℕ) (w : V)
-    → length values.items ≡ length keys.items → length (with_item values i w).items ≡ length keys.items
-same_length keys values i w same = length-set values.items i w ∙ same
+-- whether the numbers of keys rise from this one on, and stay below the end
+abbrev pub rise_from : ℕ → ℕ → List Key → Bool
+rise_from least end [] = nat_le least end
+rise_from least end (k ∷ keys) = nat_le least k.number.0 && rise_from (k.number.0 + 1) end keys
 
--- the numbers of keys rise from this one on, and stay below the end
-abbrev pub RiseFrom : ℕ → ℕ → List Key → Type 0
-RiseFrom least end [] = least ≤ end
-RiseFrom least end (k ∷ keys) = (least ≤ k.number.0) × RiseFrom (k.number.0 + 1) end keys
-
--- each peer id is one of so many
-abbrev pub ArePeersBelow : ℕ → List Key → Type 0
-ArePeersBelow most keys = AllByRecursion (λ (k : Key). k.peer_id < most) keys
+-- whether each peer id is one of so many
+abbrev pub are_below : ℕ → List Key → Bool
+are_below most [] = true
+are_below most (k ∷ keys) = nat_lt k.peer_id most && are_below most keys
