@@ -3,3 +3,4 @@ pub mod PeerIds
 pub mod Lists
 pub mod Pairs
 pub mod Rising
+pub mod Lending

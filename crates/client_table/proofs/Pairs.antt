@@ -1,6 +1,8 @@
 -- Keys and values side by side, as entries.
-use Rattle.std.proofs.Common.{◌≡◌, ℕ, zero, suc, ◌<◌, Bool, true, false, cond, List, [], ◌∷◌, ◌++◌, length, find, slice_set, option_map, Option, Some, None, refl, ap, sym, ◌∙◌, arith}
+use Rattle.std.proofs.Common.{◌≡◌, ℕ, zero, suc, ◌<◌, Bool, true, false, cond, List, [], ◌∷◌, ◌++◌, length, find, slice_set, option_map, Option, Some, None, refl, subst, ap, sym, ◌∙◌, arith}
 use Rattle.std.specs.Prelude.{slice_get}
+use Rattle.std.proofs.lemmas.Option.{slice_get_read}
+use Rattle.std.proofs.Math.ListN.{get_or}
 use Rattle.vpn_base.specs.declared.names.Cid.{Cid}
 use Rattle.client_table.specs.declared.key.Key.{Key}
 use Rattle.client_table.specs.Entries.{Entry, entries}
@@ -57,6 +59,11 @@ module _ {V : Type 0} where
   value_at (k ∷ keys) [] (Some i) same = never same
   value_at (k ∷ keys) (v ∷ values) (Some zero) same = refl
   value_at (k ∷ keys) (v ∷ values) (Some (suc i)) same = value_at keys values (Some i) (less same)
+
+  pub value_there : (keys : List Key) (values : List V) (i : ℕ) (v : V) → length values ≡ length keys → i < length keys → v ≡ get_or values i v
+      → option_map (λ e. e.value) (slice_get (entries keys values) i) ≡ Some v
+  value_there keys values i v same within is =
+      sym (value_at keys values (Some i) same) ∙ slice_get_read values (length values) i v refl (subst (λ n. i < n) (sym same) within) is
 
   -- those of the client of a number, by its place
   pub key_found : (n : ℕ) (keys : List Key) (values : List V) (o : Option ℕ) → length values ≡ length keys → o ≡ place_of n (entries keys values)

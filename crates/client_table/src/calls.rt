@@ -8,6 +8,7 @@ ghost use Rattle.client_table.specs.Changes.{changed_at, entry_where, is_other, 
 ghost use Rattle.client_table.specs.Finding.{has_name, has_number, has_peer_id, is_at, is_from};
 ghost use Rattle.client_table.specs.PeerIds.{free_peer_id};
 ghost use Rattle.client_table.specs.Entries.{Entry, entries};
+ghost use Rattle.client_table.specs.declared.table.ClientTable.{ClientTable};
 ghost use Rattle.client_table.specs.Tables.{admitted_by, entries_of, most_of, spare_of, with_value_at};
 ghost use Rattle.client_table.specs.contracts.table.ClientTable.{the_row};
 
@@ -132,12 +133,19 @@ impl<V> ClientTable<V> {
         }
     }
 
-    // Lends the value at a place.
-    #[tactic(auto, using(crate::proofs::Pairs::length_is))]
-    fn lent(&mut self, i: usize) -> &mut V
+    /// Lends the value at a place.
+    #[tactic(auto, using(crate::proofs::Pairs::length_is, crate::proofs::Pairs::value_there, crate::proofs::Pairs::value_set))]
+    pub fn value_at(&mut self, i: usize) -> &mut V
         requires { i < length (entries_of self.old) }
-        ensures* { sem 𝓛 (Lends (the_row V.row) V.row self.entry result (with_value_at self.old i)) }
+        ensures* lends { sem 𝓛 (Lends (the_row V.row) V.row self.entry result (with_value_at self.old i)) }
+        ensures value { option_map (λ e. e.value) (slice_get (entries_of self.old) i) ≡ Some result.now }
     {
         &mut self.values[i]
     }
 }
+
+/// What lending does: where another value is left behind the reference, it is the value at that place.
+#[tactic(auto, using(crate::proofs::Pairs::value_set))]
+pub fn lending_sets_the_value<V>()
+    ensures { (t : ClientTable V) (i : ℕ) (w : V) → entries_of (with_value_at t i w) ≡ changed_at i (with_value w) (entries_of t) }
+{}
