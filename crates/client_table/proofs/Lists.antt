@@ -1,5 +1,5 @@
 -- Lists of which one item was changed or taken out.
-use Rattle.std.proofs.Common.{◌≡◌, ℕ, zero, suc, Bool, true, false, cond, List, [], ◌∷◌, find, slice_set, Option, Some, None, refl, ap}
+use Rattle.std.proofs.Common.{◌≡◌, ℕ, zero, suc, Bool, true, false, cond, List, [], ◌∷◌, find, slice_set, ◌<◌, length, Option, Some, None, IfSome, refl, ap, arith}
 use Rattle.std.proofs.Math.ListN.{get_or}
 use Rattle.std.specs.List.{remove}
 use Rattle.client_table.specs.Changes.{changed_at, earlier, item_at, place_where, without_at}
@@ -26,3 +26,25 @@ at_first passes (x ∷ xs) = step (passes x) (place_where passes xs) (at_first p
     step true o e = refl
     step false None e = e
     step false (Some i) e = e
+
+-- the first place lies within
+pub first_within : {X : Type 0} (passes : X → Bool) (xs : List X) → IfSome (place_where passes xs) (λ i. i < length xs)
+first_within passes [] = tt
+first_within passes (x ∷ xs) = step (passes x) (place_where passes xs) (first_within passes xs)
+  where
+    step : (b : Bool) (o : Option ℕ) → IfSome o (λ i. i < length xs) → IfSome (earlier b o) (λ i. i < length (x ∷ xs))
+    step true o e = omega arith
+    step false None e = tt
+    step false (Some i) e = omega (arith, e)
+
+pub length_changed : {X : Type 0} (i : ℕ) (f : X → X) (xs : List X) → length (changed_at i f xs) ≡ length xs
+length_changed i f [] = refl
+length_changed zero f (x ∷ xs) = refl
+length_changed (suc i) f (x ∷ xs) = ap suc (length_changed i f xs)
+
+pub length_without : {X Y : Type 0} (i : ℕ) (xs : List X) (ys : List Y) → length xs ≡ length ys → length (without_at i xs) ≡ length (without_at i ys)
+length_without i [] [] same = refl
+length_without i [] (y ∷ ys) same = absurd (omega (arith, same))
+length_without i (x ∷ xs) [] same = absurd (omega (arith, same))
+length_without zero (x ∷ xs) (y ∷ ys) same = omega (arith, same)
+length_without (suc i) (x ∷ xs) (y ∷ ys) same = ap suc (length_without i xs ys (omega (arith, same)))

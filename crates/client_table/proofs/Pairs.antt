@@ -1,13 +1,15 @@
 -- Keys and values side by side, as entries.
 use Rattle.std.proofs.Common.{◌≡◌, ℕ, zero, suc, ◌<◌, Bool, true, false, cond, List, [], ◌∷◌, ◌++◌, length, find, slice_set, option_map, Option, Some, None, refl, subst, ap, sym, ◌∙◌, arith}
-use Rattle.std.specs.Prelude.{slice_get}
+use Rattle.std.specs.Prelude.{◌||◌, slice_get}
 use Rattle.std.proofs.lemmas.Option.{slice_get_read}
 use Rattle.std.proofs.Math.ListN.{get_or}
 use Rattle.vpn_base.specs.declared.names.Cid.{Cid}
 use Rattle.client_table.specs.declared.key.Key.{Key}
 use Rattle.client_table.specs.Entries.{Entry, entries}
 use Rattle.client_table.specs.Changes.{by_key, changed_at, earlier, entry_where, item_at, number_where, place_of, place_where, with_key, with_value, without_at}
-use Rattle.client_table.specs.Finding.{has_number}
+use Rattle.client_table.specs.Finding.{has_number, has_peer_id}
+use Rattle.client_table.specs.PeerIds.{free_peer_id, unless_used, unused_from}
+use Rattle.std.specs.List.{list_any}
 use Rattle.client_table.proofs.Lists.{at_first}
 
 less : {m n : ℕ} → suc m ≡ suc n → m ≡ n
@@ -41,6 +43,26 @@ module _ {V : Type 0} where
   number_is passes (k ∷ keys) [] same = never same
   number_is passes (k ∷ keys) (v ∷ values) same =
       first (passes k) k v (find passes keys) (find (by_key passes) (entries keys values)) (number_is passes keys values (less same))
+
+  any_is : (passes : Key → Bool) (keys : List Key) (values : List V) → length values ≡ length keys
+      → list_any passes keys ≡ list_any (by_key passes) (entries keys values)
+  any_is passes [] values same = refl
+  any_is passes (k ∷ keys) [] same = never same
+  any_is passes (k ∷ keys) (v ∷ values) same = ap (λ b. passes k || b) (any_is passes keys values (less same))
+
+  unused_is : (most n : ℕ) (keys : List Key) (values : List V) → length values ≡ length keys
+      → unused_from has_peer_id most n keys ≡ unused_from (λ n. by_key (has_peer_id n)) most n (entries keys values)
+  unused_is zero n keys values same = refl
+  unused_is (suc most) n keys values same =
+      ap (λ b. unless_used b n (unused_from has_peer_id most (suc n) keys)) (any_is (has_peer_id n) keys values same)
+      ∙ ap (λ m. unless_used (list_any (by_key (has_peer_id n)) (entries keys values)) n m) (unused_is most (suc n) keys values same)
+
+  -- the least free peer id
+  pub free_is : (keys : List Key) (values : List V) → length values ≡ length keys
+      → unused_from has_peer_id (length keys) 0 keys ≡ free_peer_id (entries keys values)
+  free_is keys values same =
+      unused_is (length keys) 0 keys values same
+      ∙ ap (λ most. unused_from (λ n. by_key (has_peer_id n)) most 0 (entries keys values)) (sym (length_is keys values same))
 
   -- the key and the value at a place
   pub key_at : (keys : List Key) (values : List V) (o : Option ℕ) → length values ≡ length keys

@@ -1,7 +1,8 @@
 -- Keys stay in order of admission, with peer ids below the most.
-use Rattle.std.proofs.Common.{◌≡◌, ℕ, zero, suc, ◌+◌, ◌<◌, ◌≤◌, Bool, true, false, List, [], ◌∷◌, ◌++◌, refl, ap, sym, ◌∙◌, arith}
+use Rattle.std.proofs.Common.{◌≡◌, ℕ, zero, suc, ◌+◌, ◌<◌, ◌≤◌, Bool, true, false, List, [], ◌∷◌, ◌++◌, length, refl, ap, sym, ◌∙◌, arith}
 use Rattle.std.proofs.lemmas.Grind.{common_steps}
 use Rattle.std.specs.Prelude.{◌&&◌, nat_le, nat_lt}
+use Rattle.std.proofs.lemmas.List.{length-append}
 use Rattle.vpn_base.specs.declared.names.Cid.{Cid}
 use Rattle.client_table.specs.declared.key.Key.{Key}
 use Rattle.client_table.specs.Changes.{changed_at, without_at}
@@ -41,6 +42,11 @@ below_more most [] k is below = grind (arith, common_steps)
 below_more most (l ∷ keys) k is below =
     let h = both (nat_lt l.peer_id most) (are_below most keys) below in
     pair (nat_lt l.peer_id most) (are_below most (keys ++ k ∷ [])) h.0 (below_more most keys k is h.1)
+
+-- as many values as keys, with one more of each
+pub paired_more : {V : Type 0} (keys : List Key) (values : List V) (k : Key) (v : V) → length values ≡ length keys
+    → length (values ++ v ∷ []) ≡ length (keys ++ k ∷ [])
+paired_more keys values k v same = length-append values (v ∷ []) ∙ ap (λ n. n + 1) same ∙ sym (length-append keys (k ∷ []))
 
 weaker : (m n k : ℕ) → m ≤ n → nat_le n k ≡ true → nat_le m k ≡ true
 weaker m n k le is = grind (arith, common_steps)

@@ -102,9 +102,13 @@ module _ {V : Type 0} where
   -- ---- moves
 
   -- whether a client may move to an address: no other one is there with its session id
-  abbrev pub may_move : Addr → List (Entry V) → Option (Entry V) → Bool
-  may_move to es None = false
-  may_move to es (Some e) = not (is_other e.key.number.0 (number_where (is_at to e.key.sid) es))
+  abbrev pub may_move_as : ℕ → Addr → List (Entry V) → Option (Entry V) → Bool
+  may_move_as n to es None = false
+  may_move_as n to es (Some e) = not (is_other n (number_where (is_at to e.key.sid) es))
+
+  -- the same for the client of this number, if it is here
+  abbrev pub may_move : ℕ → Addr → List (Entry V) → Bool
+  may_move n to es = may_move_as n to es (entry_where (has_number n) es)
 
   -- the entries after a move, if it may be
   abbrev pub moved_if : Bool → ℕ → Addr → List (Entry V) → List (Entry V)

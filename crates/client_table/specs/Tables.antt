@@ -1,5 +1,5 @@
 -- What a table has: one list of entries, in order of admission.
-use Rattle.std.specs.Prelude.{◌-◌, ℕ, min, List, vec_len, vec_capacity}
+use Rattle.std.specs.Prelude.{◌≡◌, ◌-◌, ℕ, min, List, vec_len, vec_capacity}
 use Rattle.std.specs.Vec.{with_item}
 use Rattle.client_table.specs.declared.table.ClientTable.{ClientTable}
 use Rattle.client_table.specs.Entries.{Entry, entries}
@@ -21,6 +21,12 @@ module _ {V : Type 0} where
   -- for how many more clients it has memory
   abbrev pub spare_of : ClientTable V → ℕ
   spare_of t = min (vec_capacity t.keys) (vec_capacity t.values) - vec_len t.keys
+
+  -- a table has these entries, for at most so many clients, after so many admissions
+  pub record Has (t : ClientTable V) (es : List (Entry V)) (most admitted : ℕ) : Type 0 where
+    pub entries_are : entries_of t ≡ es
+    pub most_is : most_of t ≡ most
+    pub admitted_is : admitted_by t ≡ admitted
 
   -- the table with another value at a place
   abbrev pub with_value_at : ClientTable V → ℕ → V → ClientTable V

@@ -1,10 +1,10 @@
 //! What can be asked of a table, and how it is changed.
 
-ghost use Rattle.std.specs.Prelude.{◌≡◌, ◌+◌, ◌-◌, ◌^◌, ◌<◌, ◌≤◌, ℕ, nat_lt, is_some, [], ◌∷◌, ◌++◌, length, slice_get, option_map, Some, None, Err, Result, IsOk, IfOk, IfErr, IfSome, OnOk, OnErr, OnSome};
+ghost use Rattle.std.specs.Prelude.{◌≡◌, ◌+◌, ◌-◌, ◌^◌, ◌<◌, ◌≤◌, ℕ, nat_lt, is_some, [], ◌∷◌, ◌++◌, length, slice_get, option_map, Some, None, Err, Result, IsTrue, IsOk, IfOk, IfErr, IfSome, OnOk, OnErr, OnSome};
 ghost use Rattle.std.specs.Option.{option_copied};
 ghost use Rattle.std.specs.Borrow.{Lends, sem};
 ghost use Rattle.vpn_base.specs.declared.errors.Or.TheVariants.{Why};
-ghost use Rattle.client_table.specs.Changes.{changed_at, entry_where, is_other, key_changed, may_move, moved_if, number_where, place_of, with_address, with_name, with_value, without, without_at};
+ghost use Rattle.client_table.specs.Changes.{changed_at, entry_where, is_other, item_at, key_changed, may_move, moved_if, number_where, place_of, with_address, with_name, with_value, without, without_at};
 ghost use Rattle.client_table.specs.Finding.{has_name, has_number, has_peer_id, is_at, is_from};
 ghost use Rattle.client_table.specs.PeerIds.{free_peer_id};
 ghost use Rattle.client_table.specs.Entries.{Entry, entries};
@@ -57,7 +57,8 @@ impl<V> ClientTable<V> {
     /// Whether fewer clients are here than may be.
     #[tactic(auto, using(crate::proofs::Pairs::length_is))]
     pub fn has_room(&self) -> bool
-        ensures { result ≡ nat_lt (length (entries_of self.now)) (most_of self.now) }
+        ensures room { result ≡ nat_lt (length (entries_of self.now)) (most_of self.now) }
+        ensures few { IsTrue result → length (entries_of self.now) < 2 ^ 32 }
     {
         self.keys.len() < self.most as usize
     }
@@ -70,9 +71,11 @@ impl<V> ClientTable<V> {
     }
 
     /// The place of a client, from 0 in order of admission. It is None exactly where it is not here.
-    #[tactic(auto, using(crate::proofs::Pairs::place_is))]
+    #[tactic(auto, using(crate::proofs::Pairs::place_is, crate::proofs::Lists::at_first, crate::proofs::Lists::first_within))]
     pub fn place(&self, cid: Cid) -> Option<usize>
-        ensures { result ≡ place_of cid.0 (entries_of self.now) }
+        ensures place { result ≡ place_of cid.0 (entries_of self.now) }
+        ensures there { item_at (entries_of self.now) result ≡ entry_where (has_number cid.0) (entries_of self.now) }
+        ensures within { IfSome result (λ i. i < length (entries_of self.now)) }
     {
         place_in(&self.keys, cid)
     }

@@ -3,6 +3,7 @@
 
 mod calls;
 mod changes;
+mod edits;
 mod key;
 mod search;
 mod table;
