@@ -1,16 +1,19 @@
 -- Keys stay in order of admission, with peer ids below the most.
-use Rattle.std.proofs.Common.{◌≡◌, ℕ, zero, suc, ◌+◌, ◌<◌, ◌≤◌, Bool, true, false, List, [], ◌∷◌, ◌++◌, length, refl, ap, sym, ◌∙◌, arith}
+use Rattle.std.proofs.Common.{◌≡◌, ℕ, zero, suc, ◌+◌, ◌<◌, ◌≤◌, Bool, true, false, List, [], ◌∷◌, ◌++◌, length, Option, Some, None, IfSome, refl, ap, sym, ◌∙◌, arith}
 use Rattle.std.proofs.lemmas.Grind.{common_steps}
 use Rattle.std.specs.Prelude.{◌&&◌, nat_le, nat_lt}
 use Rattle.std.proofs.lemmas.List.{length-append}
 use Rattle.vpn_base.specs.declared.names.Cid.{Cid}
 use Rattle.client_table.specs.declared.key.Key.{Key}
-use Rattle.client_table.specs.Changes.{changed_at, without_at}
+use Rattle.client_table.specs.Changes.{changed_at, item_at, without_at}
 use Rattle.client_table.specs.internal.Sound.{are_below, rise_from}
 
 both : (a b : Bool) → (a && b) ≡ true → (a ≡ true) × (b ≡ true)
 both true b e = (refl, e)
 both false b e = cc
+
+is_less : (m n : ℕ) → nat_lt m n ≡ true → m < n
+is_less m n e = grind (arith, common_steps)
 
 pair : (a b : Bool) → a ≡ true → b ≡ true → (a && b) ≡ true
 pair true b p q = q
@@ -77,3 +80,10 @@ below_less most (k ∷ keys) (suc i) below =
     let h = both (nat_lt k.peer_id most) (are_below most keys) below in
     pair (nat_lt k.peer_id most) (are_below most (without_at i keys)) h.0 (below_less most keys i h.1)
 
+
+-- the peer id at each place is below the most
+pub below_at : (most : ℕ) (keys : List Key) (o : Option ℕ) → are_below most keys ≡ true → IfSome (item_at keys o) (λ k. k.peer_id < most)
+below_at most keys None below = tt
+below_at most [] (Some i) below = tt
+below_at most (k ∷ keys) (Some zero) below = is_less k.peer_id most (both (nat_lt k.peer_id most) (are_below most keys) below).0
+below_at most (k ∷ keys) (Some (suc i)) below = below_at most keys (Some i) (both (nat_lt k.peer_id most) (are_below most keys) below).1

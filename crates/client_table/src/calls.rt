@@ -8,7 +8,6 @@ ghost use Rattle.client_table.specs.Changes.{changed_at, entry_where, is_other, 
 ghost use Rattle.client_table.specs.Finding.{has_name, has_number, has_peer_id, is_at, is_from};
 ghost use Rattle.client_table.specs.PeerIds.{free_peer_id};
 ghost use Rattle.client_table.specs.Entries.{Entry, entries};
-ghost use Rattle.client_table.specs.declared.table.ClientTable.{ClientTable};
 ghost use Rattle.client_table.specs.Tables.{admitted_by, entries_of, most_of, spare_of, with_value_at};
 ghost use Rattle.client_table.specs.contracts.table.ClientTable.{the_row};
 
@@ -115,9 +114,9 @@ impl<V> ClientTable<V> {
 
     /// What a client is found by. It is None exactly where it is not here. Its peer id is below the most
     /// clients.
-    #[tactic(auto, using(crate::proofs::Pairs::key_found))]
     pub fn key(&self, cid: Cid) -> Option<&Key>
-        ensures { option_copied result ≡ option_map (λ e. e.key) (entry_where (has_number cid.0) (entries_of self.now)) }
+        ensures below { IfSome (option_copied result) (λ k. k.peer_id < most_of self.now) }
+        ensures key { option_copied result ≡ option_map (λ e. e.key) (entry_where (has_number cid.0) (entries_of self.now)) }
     {
         match self.place(cid) {
             None => None,
@@ -146,9 +145,3 @@ impl<V> ClientTable<V> {
         &mut self.values[i]
     }
 }
-
-/// What lending does: where another value is left behind the reference, it is the value at that place.
-#[tactic(auto, using(crate::proofs::Pairs::value_set))]
-pub fn lending_sets_the_value<V>()
-    ensures { (t : ClientTable V) (i : ℕ) (w : V) → entries_of (with_value_at t i w) ≡ changed_at i (with_value w) (entries_of t) }
-{}
