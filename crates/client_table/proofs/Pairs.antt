@@ -3,7 +3,6 @@ use Rattle.std.proofs.Common.{◌≡◌, ℕ, zero, suc, ◌<◌, Bool, true, fa
 use Rattle.std.specs.Prelude.{◌||◌, slice_get}
 use Rattle.std.proofs.lemmas.Option.{slice_get_read}
 use Rattle.std.proofs.Math.ListN.{get_or}
-use Rattle.vpn_base.specs.declared.names.Cid.{Cid}
 use Rattle.client_table.specs.declared.key.Key.{Key}
 use Rattle.client_table.specs.Entries.{Entry, entries}
 use Rattle.client_table.specs.Changes.{by_key, changed_at, earlier, entry_where, item_at, number_where, place_of, place_where, with_key, with_value, without_at}

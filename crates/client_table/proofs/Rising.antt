@@ -6,7 +6,7 @@ use Rattle.std.proofs.lemmas.List.{length-append}
 use Rattle.vpn_base.specs.declared.names.Cid.{Cid}
 use Rattle.client_table.specs.declared.key.Key.{Key}
 use Rattle.client_table.specs.Changes.{changed_at, item_at, without_at}
-use Rattle.client_table.specs.internal.Sound.{are_below, rise_from}
+use Rattle.client_table.specs.Sound.{are_below, rise_from}
 
 both : (a b : Bool) → (a && b) ≡ true → (a ≡ true) × (b ≡ true)
 both true b e = (refl, e)
@@ -79,7 +79,6 @@ below_less most (k ∷ keys) zero below = (both (nat_lt k.peer_id most) (are_bel
 below_less most (k ∷ keys) (suc i) below =
     let h = both (nat_lt k.peer_id most) (are_below most keys) below in
     pair (nat_lt k.peer_id most) (are_below most (without_at i keys)) h.0 (below_less most keys i h.1)
-
 
 -- the peer id at each place is below the most
 pub below_at : (most : ℕ) (keys : List Key) (o : Option ℕ) → are_below most keys ≡ true → IfSome (item_at keys o) (λ k. k.peer_id < most)

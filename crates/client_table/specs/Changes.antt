@@ -1,8 +1,7 @@
 -- How the entries of a table are found and changed.
-use Rattle.std.specs.Prelude.{ℕ, zero, suc, ◌==◌, not, Bool, true, false, List, [], ◌∷◌, length, option_map, find, slice_get, Option, Some, None}
+use Rattle.std.specs.Prelude.{ℕ, zero, suc, ◌==◌, not, Bool, true, false, List, [], ◌∷◌, option_map, find, slice_get, Option, Some, None}
 use Rattle.vpn_base.specs.declared.address.Addr.{Addr}
 use Rattle.vpn_base.specs.declared.names.Cid.{Cid}
-use Rattle.vpn_base.specs.declared.names.Sid.{Sid}
 use Rattle.client_table.specs.declared.key.Key.{Key}
 use Rattle.client_table.specs.Finding.{has_number, is_at}
 use Rattle.client_table.specs.Entries.{Entry}
@@ -62,55 +61,54 @@ abbrev pub is_other : ℕ → Option Cid → Bool
 is_other n None = false
 is_other n (Some m) = not (m.0 == n)
 
-module _ {V : Type 0} where
-  -- ---- who is here
+-- ---- who is here
 
-  -- whether the key of an entry passes
-  abbrev pub by_key : (Key → Bool) → Entry V → Bool
-  by_key passes e = passes e.key
+-- whether the key of an entry passes
+abbrev pub by_key : {V : Type 0} → (Key → Bool) → Entry V → Bool
+by_key passes e = passes e.key
 
-  -- the first entry whose key passes
-  abbrev pub entry_where : (Key → Bool) → List (Entry V) → Option (Entry V)
-  entry_where passes es = find (by_key passes) es
+-- the first entry whose key passes
+abbrev pub entry_where : {V : Type 0} → (Key → Bool) → List (Entry V) → Option (Entry V)
+entry_where passes es = find (by_key passes) es
 
-  -- its number
-  abbrev pub number_where : (Key → Bool) → List (Entry V) → Option Cid
-  number_where passes es = option_map (λ e. e.key.number) (entry_where passes es)
+-- its number
+abbrev pub number_where : {V : Type 0} → (Key → Bool) → List (Entry V) → Option Cid
+number_where passes es = option_map (λ e. e.key.number) (entry_where passes es)
 
-  -- the place of the client of a number
-  abbrev pub place_of : ℕ → List (Entry V) → Option ℕ
-  place_of n es = place_where (by_key (has_number n)) es
+-- the place of the client of a number
+abbrev pub place_of : {V : Type 0} → ℕ → List (Entry V) → Option ℕ
+place_of n es = place_where (by_key (has_number n)) es
 
-  -- ---- changes
+-- ---- changes
 
-  -- an entry with another key
-  abbrev pub with_key : (Key → Key) → Entry V → Entry V
-  with_key change e = record e { key = change e.key }
+-- an entry with another key
+abbrev pub with_key : {V : Type 0} → (Key → Key) → Entry V → Entry V
+with_key change e = record e { key = change e.key }
 
-  -- an entry with another value
-  abbrev pub with_value : V → Entry V → Entry V
-  with_value w e = record e { value = w }
+-- an entry with another value
+abbrev pub with_value : {V : Type 0} → V → Entry V → Entry V
+with_value w e = record e { value = w }
 
-  -- the client of a number has another key
-  abbrev pub key_changed : ℕ → (Key → Key) → List (Entry V) → List (Entry V)
-  key_changed n change es = changed_where (place_of n es) (with_key change) es
+-- the client of a number has another key
+abbrev pub key_changed : {V : Type 0} → ℕ → (Key → Key) → List (Entry V) → List (Entry V)
+key_changed n change es = changed_where (place_of n es) (with_key change) es
 
-  -- the client of a number is not here any more
-  abbrev pub without : ℕ → List (Entry V) → List (Entry V)
-  without n es = without_where (place_of n es) es
+-- the client of a number is not here any more
+abbrev pub without : {V : Type 0} → ℕ → List (Entry V) → List (Entry V)
+without n es = without_where (place_of n es) es
 
-  -- ---- moves
+-- ---- moves
 
-  -- whether a client may move to an address: no other one is there with its session id
-  abbrev pub may_move_as : ℕ → Addr → List (Entry V) → Option (Entry V) → Bool
-  may_move_as n to es None = false
-  may_move_as n to es (Some e) = not (is_other n (number_where (is_at to e.key.sid) es))
+-- whether a client may move to an address: no other one is there with its session id
+abbrev pub may_move_as : {V : Type 0} → ℕ → Addr → List (Entry V) → Option (Entry V) → Bool
+may_move_as n to es None = false
+may_move_as n to es (Some e) = not (is_other n (number_where (is_at to e.key.sid) es))
 
-  -- the same for the client of this number, if it is here
-  abbrev pub may_move : ℕ → Addr → List (Entry V) → Bool
-  may_move n to es = may_move_as n to es (entry_where (has_number n) es)
+-- the same for the client of this number, if it is here
+abbrev pub may_move : {V : Type 0} → ℕ → Addr → List (Entry V) → Bool
+may_move n to es = may_move_as n to es (entry_where (has_number n) es)
 
-  -- the entries after a move, if it may be
-  abbrev pub moved_if : Bool → ℕ → Addr → List (Entry V) → List (Entry V)
-  moved_if true n to es = key_changed n (with_address to) es
-  moved_if false n to es = es
+-- the entries after a move, if it may be
+abbrev pub moved_if : {V : Type 0} → Bool → ℕ → Addr → List (Entry V) → List (Entry V)
+moved_if true n to es = key_changed n (with_address to) es
+moved_if false n to es = es

@@ -11,8 +11,8 @@ ghost use Rattle.client_table.specs.Entries.{Entry, entries};
 ghost use Rattle.client_table.specs.Tables.{admitted_by, entries_of, most_of, spare_of, with_value_at};
 ghost use Rattle.client_table.specs.contracts.table.ClientTable.{the_row};
 
-use crate::key::Key;
 use crate::changes::{change_address, change_name};
+use crate::key::Key;
 use crate::search::{free_in, number_from, place_in, with_name, with_peer_id, with_session};
 use crate::table::ClientTable;
 use std::alloc::Global;

@@ -11,7 +11,7 @@ ghost use Rattle.client_table.specs.Tables.{Has, admitted_by, entries_of, most_o
 use crate::calls::Full;
 use crate::changes::{change_address, change_name};
 use crate::key::Key;
-use crate::search::{free_in};
+use crate::search::free_in;
 use crate::table::ClientTable;
 use vpn_base::{Addr, Cid, NoMemory, Or, Sid, Text};
 

@@ -1,7 +1,7 @@
 //! The table.
 
 ghost use Rattle.std.specs.Prelude.{◌≡◌, length, true};
-ghost use Rattle.client_table.specs.internal.Sound.{are_below, rise_from};
+ghost use Rattle.client_table.specs.Sound.{are_below, rise_from};
 
 use crate::key::Key;
 use std::alloc::Global;

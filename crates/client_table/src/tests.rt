@@ -1,6 +1,3 @@
-ghost use Rattle.std.specs.Prelude.{◌<◌, ◌^◌};
-ghost use Rattle.client_table.specs.Tables.{admitted_by};
-
 use super::*;
 use std::test::Fail;
 use vpn_base::{Addr, Cid, Ip4, Or, Sid, Text};
@@ -15,14 +12,12 @@ const THERE: Addr = Addr {
     port: 1194,
 };
 
-// Admits a client with a session id of this byte and this value, and answers its number.
-fn admit(table: &mut ClientTable<u8>, from: Addr, byte: u8) -> Option<Cid>
-    requires { admitted_by table.old < 2 ^ 64 - 1 }
-{
-    match table.admit(from, Sid([byte; 8]), byte) {
-        Ok(cid) => Some(cid),
-        Err(_) => None,
+// Admits a client with a session id of this byte and this value.
+fn admit(table: &mut ClientTable<u8>, from: Addr, byte: u8) -> Result<Cid, (u8, Or<Full>)> {
+    if table.next_number() == Cid(u64::MAX) {
+        return Err((byte, Or::Memory));
     }
+    table.admit(from, Sid([byte; 8]), byte)
 }
 
 #[test]
@@ -31,16 +26,16 @@ fn clients_come_and_go(rt: HostRuntime) -> Result<(), Fail> {
     assert!(rt; table.has_room());
     assert_eq!(rt; table.next_number(), Cid(0));
     table.reserve()?;
-    assert_eq!(rt; admit(&mut table, HERE, 7), Some(Cid(0)));
-    assert_eq!(rt; admit(&mut table, HERE, 8), Some(Cid(1)));
+    assert_eq!(rt; admit(&mut table, HERE, 7), Ok(Cid(0)));
+    assert_eq!(rt; admit(&mut table, HERE, 8), Ok(Cid(1)));
     assert_eq!(rt; table.count(), 2);
-    assert!(rt; matches!(table.admit(THERE, Sid([9; 8]), 9), Err((9, Or::Why(Full)))));
+    assert_eq!(rt; admit(&mut table, THERE, 9), Err((9, Or::Why(Full))));
     assert_eq!(rt; table.by_peer(1), Some(Cid(1)));
     assert_eq!(rt; table.by_peer(2), None);
     assert_eq!(rt; table.remove(Cid(0)), Some(7));
     assert_eq!(rt; table.remove(Cid(0)), None);
     assert_eq!(rt; table.place(Cid(1)), Some(0));
-    assert_eq!(rt; admit(&mut table, HERE, 9), Some(Cid(2)));
+    assert_eq!(rt; admit(&mut table, HERE, 9), Ok(Cid(2)));
     assert_eq!(rt; table.key(Cid(2)).map(|key| key.peer_id), Some(0));
     assert_eq!(rt; table.next_from(Cid(0)), Some(Cid(1)));
     assert_eq!(rt; table.next_from(Cid(3)), None);

@@ -1,4 +1,4 @@
-use Rattle.client_table.specs.Changes.{with_address, with_name}
+use Rattle.client_table.specs.Changes.{with_address}
 use Rattle.client_table.proofs.Lists.{set_is}
 use Rattle.client_table.proofs.changes.change_address.Goals as goal
 

@@ -1,4 +1,4 @@
-use Rattle.std.proofs.Common.{◌≡◌, ℕ, ◌≤◌, length, ◌-◌}
+use Rattle.std.proofs.Common.{◌≡◌, ◌≤◌, length, ◌-◌}
 use Rattle.client_table.specs.Finding.{has_peer_id}
 use Rattle.client_table.specs.PeerIds.{unused_from}
 use Rattle.client_table.proofs.search.free_in.Given as goal

@@ -1,4 +1,4 @@
-use Rattle.std.proofs.Common.{◌≡◌, Some, None, slice_get, sym, ap, ◌∙◌}
+use Rattle.std.proofs.Common.{Some, None, slice_get, sym, ap, ◌∙◌}
 use Rattle.client_table.proofs.Pairs.{value_found}
 use Rattle.client_table.proofs.table.ClientTable.get.Goals as goal
 

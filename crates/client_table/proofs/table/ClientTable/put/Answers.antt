@@ -1,7 +1,7 @@
-use Rattle.std.proofs.Common.{◌≡◌, ◌+◌, None, true, length, ap, sym, subst, ◌∙◌, refl}
+use Rattle.std.proofs.Common.{◌+◌, None, length, ap, sym, ◌∙◌, refl}
 use Rattle.client_table.specs.declared.key.Key.{Key}
 use Rattle.client_table.proofs.Rising.{below_more, paired_more, rise_more}
-use Rattle.client_table.specs.internal.Sound.{are_below, rise_from}
+use Rattle.client_table.specs.Sound.{are_below, rise_from}
 use Rattle.client_table.proofs.table.ClientTable.put.Goals as goal
 
 pub invariant_of-self : goal.invariant_of-self

@@ -1,6 +1,6 @@
-use Rattle.std.proofs.Common.{◌≡◌, length, refl, ap, sym, ◌∙◌}
+use Rattle.std.proofs.Common.{length, refl, ap, sym, ◌∙◌}
 use Rattle.client_table.specs.Changes.{with_name}
-use Rattle.client_table.specs.internal.Sound.{are_below, rise_from}
+use Rattle.client_table.specs.Sound.{are_below, rise_from}
 use Rattle.client_table.proofs.Lists.{length_changed}
 use Rattle.client_table.proofs.Rising.{below_changed, rise_changed}
 use Rattle.client_table.proofs.table.ClientTable.set_name.Goals as goal

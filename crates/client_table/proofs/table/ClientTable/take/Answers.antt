@@ -1,5 +1,5 @@
-use Rattle.std.proofs.Common.{◌≡◌, ◌<◌, length, refl, ap, sym, subst, ◌∙◌}
-use Rattle.client_table.specs.internal.Sound.{are_below, rise_from}
+use Rattle.std.proofs.Common.{◌<◌, length, ap, sym, subst, ◌∙◌}
+use Rattle.client_table.specs.Sound.{are_below, rise_from}
 use Rattle.client_table.proofs.Lists.{length_without, remove_is}
 use Rattle.client_table.proofs.Pairs.{length_is, value_there}
 use Rattle.client_table.proofs.Rising.{below_less, rise_less}
@@ -21,4 +21,4 @@ pub returns-clause-value : goal.returns-clause-value
 returns-clause-value g c =
     let t = c.args.self.now in
     value_there t.keys.items t.values.items c.args.i c.remove-2.result t.paired
-        (subst (λ n. c.args.i < n) (length_is t.keys.items t.values.items t.paired) c.requires) c.remove-2.ensures.value
+    (subst (λ n. c.args.i < n) (length_is t.keys.items t.values.items t.paired) c.requires) c.remove-2.ensures.value
