@@ -1,4 +1,6 @@
-pub mod Words
-pub mod SealLines
+pub mod Draws
+pub mod EventLine
 pub mod RouteLine
+pub mod SealLines
+pub mod Words
 pub mod internal
