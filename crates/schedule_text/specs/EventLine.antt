@@ -1,15 +1,12 @@
 -- The lines of a schedule. Faults of a line are judged in the order Long, Words, Number, Address, Digits.
-use Rattle.std.specs.Prelude.{ℕ, ◌-◌, ◌^◌, ◌≤◌, ◌==◌, nat_lt, Bool, List, [], ◌∷◌, length, codes, Option, Some, None, Result, Ok, Err, if◌then◌else◌}
+use Rattle.std.specs.Prelude.{ℕ, ◌-◌, ◌^◌, ◌==◌, nat_lt, Bool, List, [], ◌∷◌, length, codes, Option, Some, None, Result, Ok, Err, if◌then◌else◌}
 use Rattle.std.specs.List.{join_with_byte, slice_split}
 use Rattle.std.specs.Str.{bytes_eq}
 use Rattle.vpn_base.specs.declared.address.Addr.{Addr}
 use Rattle.vpn_base.specs.declared.address.Ip4.{Ip4}
-use Rattle.vpn_base.specs.declared.names.Cid.{Cid}
-use Rattle.vpn_base.specs.declared.names.Conn.{Conn}
 use Rattle.vpn_base.specs.Address.{ip4_of}
 use Rattle.vpn_base.specs.Number.{number_of}
 use Rattle.vpn_base.specs.WordCount.{are_none, one_of, two_of}
-use Rattle.vpn_links.specs.declared.events.Event.{Event}
 use Rattle.vpn_links.specs.declared.events.FileAnswer.{FileAnswer}
 use Rattle.vpn_links.specs.declared.events.FileAnswer.TheVariants as answers
 use Rattle.vpn_links.specs.declared.events.Kind.{Kind}

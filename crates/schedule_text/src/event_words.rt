@@ -101,10 +101,7 @@ fn read_datagram(alloc: Global, arguments: Option<&[u8]>) -> Read
 }
 
 // A number and bytes.
-fn read_numbered(
-    alloc: Global,
-    arguments: Option<&[u8]>,
-) -> Result<(u64, Bytes), Or<TextKind>>
+fn read_numbered(alloc: Global, arguments: Option<&[u8]>) -> Result<(u64, Bytes), Or<TextKind>>
     ensures { Answers result (numbered_line (arguments_of (option_copied arguments.entry))) }
 {
     let Some((n, rest)) = next_word(arguments) else {

@@ -1,7 +1,6 @@
-use Rattle.std.proofs.Common.{◌≡◌, ◌+◌, ◌*◌, ◌^◌, ◌<◌, ◌++◌, List, ℕ, refl, ap, sym, ◌∙◌, arith, take, length, take_all, mod-eq_of_lt, length-append, length-take-le}
-use Rattle.std.specs.Int.{w32, to_le_bytes}
-use Rattle.rand_chacha.specs.ChaCha.{ChaCha, key_of, next_word}
-use Rattle.schedule_text.specs.Draws.{draw_of, key_bytes, words_from}
+use Rattle.std.proofs.Common.{◌≡◌, ◌+◌, ◌*◌, ◌^◌, ◌<◌, ◌++◌, ℕ, refl, ap, sym, ◌∙◌, arith, take, length, take_all, mod-eq_of_lt, length-append, length-take-le}
+use Rattle.rand_chacha.specs.ChaCha.{ChaCha, key_of}
+use Rattle.schedule_text.specs.Draws.{draw_of, words_from}
 use Rattle.schedule_text.proofs.DrawWords.{place_there, same_long, word_there, words_more}
 use Rattle.schedule_text.proofs.draws.draw.Goals as goal
 
