@@ -10,9 +10,10 @@ use Rattle.vpn_base.specs.declared.names.Moment.{Moment}
 use Rattle.vpn_base.specs.Address.{ip4_text}
 use Rattle.vpn_base.specs.Network.{Network}
 use Rattle.vpn_text.specs.Words.{is_control}
+use Rattle.address_text.specs.AddressText.{addr_text}
 use Rattle.mgmt_lines.specs.declared.texts.StatusRow.{StatusRow}
 use Rattle.mgmt_lines.specs.Laws.{is_clean}
-use Rattle.mgmt_lines.specs.Texts.{addr_text, network_text, mark, seconds, time_text, client_text, route_text, queued_text, load_text, count_text, own_count_text, name_killed_text, name_not_found_text, address_killed_text, address_not_found_text}
+use Rattle.mgmt_lines.specs.Texts.{network_text, mark, seconds, time_text, client_text, route_text, queued_text, load_text, count_text, own_count_text, name_killed_text, name_not_found_text, address_killed_text, address_not_found_text}
 use Rattle.mgmt_lines.proofs.Passing.{append_passes, both_true, decimal_passes, ip4_passes}
 
 abbrev passes : ℕ → Bool

@@ -19,8 +19,8 @@ use Rattle.vpn_text.specs.Words.{is_control, line_words}
 use Rattle.mgmt_lines.specs.declared.commands.Command.TheVariants.{KillName, KillAddr, ClientKill, Bytecount}
 use Rattle.mgmt_lines.specs.declared.commands.Name.{Name}
 use Rattle.mgmt_lines.specs.declared.commands.Name.TheVariants as names
-use Rattle.mgmt_lines.specs.Commands.{addr_of, both, bytecount_of, client_kill_of, command, command_from, command_of, kill_of, name_of, of_parts}
-use Rattle.mgmt_lines.specs.Texts.{addr_text}
+use Rattle.mgmt_lines.specs.Commands.{bytecount_of, client_kill_of, command, command_from, command_of, kill_of, name_of}
+use Rattle.address_text.specs.AddressText.{addr_of, addr_of_parts, addr_text, addr_with}
 use Rattle.mgmt_lines.proofs.Passing.{append_passes, both_true, decimal_passes, ip4_passes}
 
 -- words without control bytes are read again
@@ -175,7 +175,7 @@ name_plain (c ∷ cs) all =
 
 no_addr : (name : List ℕ) → list_all (λ c. not (c == 58)) name ≡ true → addr_of name ≡ None
 unfolding addr_of
-no_addr name all = ap of_parts (slice_split_none (λ c. c == 58) name (no_colons name all))
+no_addr name all = ap addr_of_parts (slice_split_none (λ c. c == 58) name (no_colons name all))
 
 pub name : ReadsWords → (word : List ℕ) → is_file_name word ≡ true → command (codes "kill " ++ word) ≡ Ok (KillName word)
 unfolding is_file_name
@@ -224,9 +224,9 @@ addr_read ips numbers a ip port =
     slice_split_at (λ c. c == 58) (ip4_text a.ip) 58 (decimal a.port) (no_colons (ip4_text a.ip) (ip4_passes (λ c. not (c == 58)) digit_no_colon refl a.ip)) refl
     ∙ ap (λ (l : List (List ℕ)). ip4_text a.ip ∷ l)
     (slice_split_none (λ c. c == 58) (decimal a.port) (no_colons (decimal a.port) (decimal_passes (λ c. not (c == 58)) digit_no_colon a.port))) in
-    ap of_parts parts
-    ∙ ap (λ (o : Option Ip4). both o (number_of 65535 (decimal a.port))) (ips a.ip ip)
-    ∙ ap (both (Some a.ip)) (numbers 65535 a.port (omega arith) (omega arith))
+    ap addr_of_parts parts
+    ∙ ap (λ (o : Option Ip4). addr_with o (number_of 65535 (decimal a.port))) (ips a.ip ip)
+    ∙ ap (addr_with (Some a.ip)) (numbers 65535 a.port (omega arith) (omega arith))
 
 pub address : ReadsWords → ReadsIp4 → ReadsNumbers → (a : Addr) → a.ip.0 < 2 ^ 32 → a.port < 2 ^ 16
     → command (codes "kill " ++ addr_text a) ≡ Ok (KillAddr a)

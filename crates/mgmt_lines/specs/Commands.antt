@@ -1,12 +1,10 @@
 -- The commands of the management console (OpenVPN 2.6, doc/management-notes.txt; that these are all of them is this
 -- profile's own).
-use Rattle.std.specs.Prelude.{ℕ, ◌==◌, nat_lt, List, [], ◌∷◌, length, codes, Option, Some, None, Result, Ok, Err, if◌then◌else◌}
-use Rattle.std.specs.List.{slice_split}
+use Rattle.std.specs.Prelude.{ℕ, nat_lt, List, [], ◌∷◌, length, codes, Option, Some, None, Result, Ok, Err, if◌then◌else◌}
 use Rattle.std.specs.Str.{bytes_eq}
-use Rattle.vpn_base.specs.declared.address.Ip4.{Ip4}
 use Rattle.vpn_base.specs.declared.address.Addr.{Addr}
-use Rattle.vpn_base.specs.Address.{ip4_of}
 use Rattle.vpn_base.specs.Number.{number_of}
+use Rattle.address_text.specs.AddressText.{addr_of}
 use Rattle.vpn_text.specs.declared.words.LineFault.{LineFault}
 use Rattle.vpn_text.specs.Words.{line_words}
 use Rattle.mgmt_lines.specs.declared.commands.Name.{Name}
@@ -39,20 +37,6 @@ abbrev pub status_in : List (List ℕ) → Result Command CommandFault
 status_in [] = Ok commands.Status
 status_in (version ∷ []) = if bytes_eq version (codes "2") then Ok commands.Status else Err Arguments
 status_in _ = Err Arguments
-
--- an address with a port, where both are there
-abbrev pub both : Option Ip4 → Option ℕ → Option Addr
-both (Some ip) (Some port) = Some (record { ip = ip; port = port })
-both _ _ = None
-
--- the address of two parts
-abbrev pub of_parts : List (List ℕ) → Option Addr
-of_parts (ip ∷ port ∷ []) = both (ip4_of ip) (number_of 65535 port)
-of_parts _ = None
-
--- the address with its port that a word spells: IP:PORT
-unfoldable pub addr_of : List ℕ → Option Addr
-addr_of word = of_parts (slice_split (λ c. c == 58) word)
 
 -- a kill of those at this address, or else of those with this name
 abbrev pub kill_of : List ℕ → Option Addr → Command

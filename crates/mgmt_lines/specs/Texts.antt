@@ -8,6 +8,7 @@ use Rattle.vpn_base.specs.declared.names.Cid.{Cid}
 use Rattle.vpn_base.specs.declared.names.Moment.{Moment}
 use Rattle.vpn_base.specs.Address.{ip4_text}
 use Rattle.vpn_base.specs.Network.{Network}
+use Rattle.address_text.specs.AddressText.{addr_text}
 use Rattle.mgmt_lines.specs.declared.commands.CommandFault.{CommandFault}
 use Rattle.mgmt_lines.specs.declared.commands.CommandFault.TheVariants as faults
 use Rattle.mgmt_lines.specs.declared.fixed.FixedLine.{FixedLine}
@@ -33,10 +34,6 @@ abbrev pub fault_text : CommandFault → List ℕ
 fault_text faults.Unknown = codes "ERROR: unknown command"
 fault_text faults.Arguments = codes "ERROR: bad arguments"
 fault_text faults.TooLong = codes "ERROR: command too long"
-
--- an address with its port: IP:PORT
-unfoldable pub addr_text : Addr → List ℕ
-addr_text a = ip4_text a.ip ++ 58 ∷ decimal a.port
 
 -- a block of addresses: NET/LEN, and one address without its length
 unfoldable pub network_text : Network → List ℕ

@@ -1,13 +1,13 @@
 //! Commands read.
 
 ghost use Rattle.std.specs.Prelude.{◌≡◌, ◌∷◌, [], ◌==◌, None, IfOk, MatchOption};
-ghost use Rattle.std.specs.List.{slice_split};
 ghost use Rattle.vpn_base.specs.Answers.{Answers};
-ghost use Rattle.vpn_base.specs.Number.{number_of};
-ghost use Rattle.mgmt_lines.specs.Commands.{name_of, alone, status_in, of_parts, addr_of, kill_of, kill_in, client_kill_in, bytecount_in, signal_in, command_of, command_in, command};
+ghost use Rattle.address_text.specs.AddressText.{addr_of};
+ghost use Rattle.mgmt_lines.specs.Commands.{name_of, alone, status_in, kill_of, kill_in, client_kill_in, bytecount_in, signal_in, command_of, command_in, command};
 
+use address_text::read_addr;
 use std::alloc::Global;
-use vpn_base::{Addr, Cid, NoMemory, Or, Text, read_ip4, read_number, split_once};
+use vpn_base::{Addr, Cid, NoMemory, Or, Text, read_number};
 use vpn_text::read_line;
 
 // The greatest length of a line, in bytes.
@@ -118,40 +118,6 @@ fn status_in(words: &[Text]) -> Result<Command, CommandFault>
             Ok(Command::Status)
         }
         _ => Err(CommandFault::Arguments),
-    }
-}
-
-// The two parts between colons, where there are two.
-fn two_parts(word: &[u8]) -> Option<(&[u8], &[u8])>
-    ensures { MatchOption result
-        (of_parts (slice_split (λ c. c == 58) word.now) ≡ None)
-        (λ parts. slice_split (λ c. c == 58) word.now ≡ parts.0.now ∷ parts.1.now ∷ []) }
-{
-    let (ip, port) = split_once(word, b':')?;
-    match split_once(port, b':') {
-        Some(_) => None,
-        None => Some((ip, port)),
-    }
-}
-
-fn read_port(text: &[u8]) -> Option<u16>
-    ensures { result ≡ number_of 65535 text.now }
-{
-    match read_number(text, 65_535) {
-        None => None,
-        Some(n) => Some(n as u16),
-    }
-}
-
-// The address with its port that a word spells.
-#[tactic(auto, unfolding(crate::specs::Commands::addr_of))]
-fn read_addr(word: &[u8]) -> Option<Addr>
-    ensures { result ≡ addr_of word.now }
-{
-    let (ip, port) = two_parts(word)?;
-    match (read_ip4(ip), read_port(port)) {
-        (Some(ip), Some(port)) => Some(Addr { ip, port }),
-        _ => None,
     }
 }
 

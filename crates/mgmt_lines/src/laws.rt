@@ -7,12 +7,13 @@ ghost use Rattle.vpn_base.specs.declared.names.Cid.{Cid};
 ghost use Rattle.vpn_base.specs.declared.names.Moment.{Moment};
 ghost use Rattle.vpn_base.specs.FileName.{is_file_name};
 ghost use Rattle.vpn_base.specs.Network.{Network};
+ghost use Rattle.address_text.specs.AddressText.{addr_text};
 ghost use Rattle.mgmt_lines.specs.declared.commands.Command.TheVariants.{KillName, KillAddr, ClientKill, Bytecount};
 ghost use Rattle.mgmt_lines.specs.declared.commands.CommandFault.{CommandFault};
 ghost use Rattle.mgmt_lines.specs.declared.fixed.FixedLine.{FixedLine};
 ghost use Rattle.mgmt_lines.specs.declared.texts.StatusRow.{StatusRow};
 ghost use Rattle.mgmt_lines.specs.Commands.{command};
-ghost use Rattle.mgmt_lines.specs.Texts.{addr_text, fixed_text, fault_text, time_text, client_text, route_text, queued_text, load_text, count_text, own_count_text, name_killed_text, name_not_found_text, address_killed_text, address_not_found_text};
+ghost use Rattle.mgmt_lines.specs.Texts.{fixed_text, fault_text, time_text, client_text, route_text, queued_text, load_text, count_text, own_count_text, name_killed_text, name_not_found_text, address_killed_text, address_not_found_text};
 ghost use Rattle.mgmt_lines.specs.Laws.{is_clean};
 
 use vpn_base::{reads_decimal_again, reads_ip4_again};

@@ -3,8 +3,10 @@
 ghost use Rattle.std.specs.Prelude.{◌≡◌, ◌∷◌, [], ◌++◌, codes, IfOk, OnOk};
 ghost use Rattle.std.specs.Fmt.{decimal};
 ghost use Rattle.vpn_base.specs.Address.{ip4_text};
-ghost use Rattle.mgmt_lines.specs.Texts.{addr_text, network_text, mark, seconds, time_text, client_text, route_text, queued_text, load_text, count_text, own_count_text, name_killed_text, name_not_found_text, address_killed_text, address_not_found_text};
+ghost use Rattle.address_text.specs.AddressText.{addr_text};
+ghost use Rattle.mgmt_lines.specs.Texts.{network_text, mark, seconds, time_text, client_text, route_text, queued_text, load_text, count_text, own_count_text, name_killed_text, name_not_found_text, address_killed_text, address_not_found_text};
 
+use address_text::write_addr;
 use itoa::Buffer;
 use std::alloc::Global;
 use vpn_base::{Addr, Cid, Ip4, Moment, NoMemory, Prefix, Text, write_ip4};
@@ -47,16 +49,6 @@ fn add_ip4(text: &mut Vec<u8>, a: Ip4) -> Result<(), NoMemory>
     Ok(())
 }
 
-#[tactic(auto, unfolding(crate::specs::Texts::addr_text))]
-fn add_addr(text: &mut Vec<u8>, a: Addr) -> Result<(), NoMemory>
-    ensures { OnOk result (text.new.items ≡ text.old.items ++ addr_text a) }
-{
-    add_ip4(text, a.ip)?;
-    text.push(b':')?;
-    add_number(text, u64::from(a.port))?;
-    Ok(())
-}
-
 #[tactic(auto, unfolding(crate::specs::Texts::network_text))]
 fn add_network(text: &mut Vec<u8>, p: Prefix) -> Result<(), NoMemory>
     ensures { OnOk result (text.new.items ≡ text.old.items ++ network_text p) }
@@ -95,7 +87,7 @@ fn add_owner(text: &mut Vec<u8>, name: &[u8], real: Addr) -> Result<(), NoMemory
     text.push(b',')?;
     text.extend_from_slice(name)?;
     text.push(b',')?;
-    add_addr(text, real)?;
+    write_addr(text, real)?;
     Ok(())
 }
 
@@ -246,7 +238,7 @@ pub fn address_killed(alloc: Global, a: Addr, count: u64) -> Result<Text, NoMemo
     let mut text = Vec::from_slice(alloc, b"SUCCESS: ")?;
     add_number(&mut text, count)?;
     text.extend_from_slice(b" client(s) at address ")?;
-    add_addr(&mut text, a)?;
+    write_addr(&mut text, a)?;
     text.extend_from_slice(b" killed")?;
     Ok(Text::of(text))
 }
@@ -257,7 +249,7 @@ pub fn address_not_found(alloc: Global, a: Addr) -> Result<Text, NoMemory>
     ensures { IfOk result (λ t. t ≡ address_not_found_text a) }
 {
     let mut text = Vec::from_slice(alloc, b"ERROR: client at address ")?;
-    add_addr(&mut text, a)?;
+    write_addr(&mut text, a)?;
     text.extend_from_slice(b" not found")?;
     Ok(Text::of(text))
 }

@@ -1,6 +1,6 @@
 use Rattle.std.proofs.Common.{◌==◌}
-use Rattle.mgmt_lines.proofs.Parts.{three_parts}
-use Rattle.mgmt_lines.proofs.commands.two_parts.Goals as goal
+use Rattle.address_text.proofs.Parts.{three_parts}
+use Rattle.address_text.proofs.two_parts.Goals as goal
 
 pub returns-in-Some : goal.returns-in-Some
 returns-in-Some c =
