@@ -1,0 +1,30 @@
+-- What it means that a data packet of a client opens, for the first time and under a usable key.
+use Rattle.std.specs.Prelude.{◌≡◌, ℕ, List, Some, Ok, slice_get}
+use Rattle.std.specs.List.{IsAmong}
+use Rattle.vpn_base.specs.declared.names.Freshness.TheVariants.{Fresh}
+use Rattle.vpn_base.specs.declared.names.Role.TheVariants as roles
+use Rattle.packet_ids.specs.Freshness.{freshness}
+use Rattle.opcode_codec.specs.DataPacket.{DataForm}
+use Rattle.opcode_codec.specs.Packet.{Inner, packet_of}
+use Rattle.peer_table.specs.KeySessions.{Keys, Session, keys_of, kid_of, usable}
+use Rattle.peer_table.specs.DataPackets.{data_kid, opened_under}
+use Rattle.server_table.specs.Table.{Client, Table}
+use Rattle.server_table.specs.Lookups.{client_here}
+
+-- At this moment, over this table, the datagram is a data packet of the client of number `n`, which is here and has the peer id that stands
+-- in it; key session `k` of this client is usable, has the packet's key id, and has keys; under these keys the datagram opens to packet id
+-- `id` and the inner packet; and this id is fresh, by all that were ever accepted in the session.
+pub record IsAccepted (t : Table) (moment : ℕ) (datagram : List ℕ) (n k id : ℕ) (inner : List ℕ) : Type 0 where
+  pub form : DataForm
+  pub is_data : packet_of datagram ≡ Ok (Inner form)
+  pub client : Client
+  pub client_here : client_here t n ≡ Some client
+  pub peer_id : client.peer_id ≡ form.peer
+  pub session : Session
+  pub session_there : slice_get client.session.sessions k ≡ Some session
+  pub is_usable : IsAmong (usable client.session.timers moment client.session.sessions) k
+  pub key_id : kid_of k ≡ data_kid datagram
+  pub keys : Keys
+  pub has_keys : keys_of session.stage ≡ Some keys
+  pub opens : opened_under roles.Client keys (kid_of k) datagram ≡ Some (id, inner)
+  pub is_fresh : freshness session.received id (record { 0 = moment }) ≡ Fresh

@@ -1,0 +1,4 @@
+pub mod Accepted
+pub mod HandedOn
+pub mod Waiting
+pub mod WellKept

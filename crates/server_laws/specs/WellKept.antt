@@ -1,0 +1,96 @@
+-- What holds of every table that a run comes to, of its rows, its learned hosts, its clients and its queue.
+use Rattle.std.specs.Prelude.{◌≡◌, ℕ, ◌≤◌, ◌^◌, is_some, Bool, true, List, [], ◌∷◌, ◌++◌, length, Option, Some, None, slice_get}
+use Rattle.std.specs.List.{AllByRecursion, IsAmong, list_any}
+use Rattle.ccd_files.specs.declared.client_file.Ccd.{Ccd}
+use Rattle.vpn_base.specs.declared.names.Role.TheVariants.{Server}
+use Rattle.route_table.specs.Owner.{Row, owner}
+use Rattle.route_table.specs.Learned.{Host, rows_of}
+use Rattle.peer_table.specs.KeySessions.{Session, has_keys}
+use Rattle.server_table.specs.Table.{Client, Established, FileState, Known, Table}
+use Rattle.server_table.specs.Lookups.{cid}
+use Rattle.server_table.specs.Establishing.{networks_of}
+use Rattle.server_table.specs.InnerPackets.{most_queued}
+use Rattle.server_table.specs.Sound.{IsEstablishedAt}
+
+-- ---- the rows
+
+-- the rows of an established client: its address, then the networks of its file
+abbrev pub rows_with : ℕ → Client → Option Established → List Row
+rows_with n x None = []
+rows_with n x (Some e) = rows_of (cid n) (networks_of x e.address)
+
+-- those of the client of this number
+abbrev pub rows_at : ℕ → Option Client → List Row
+rows_at n None = []
+rows_at n (Some x) = rows_with n x x.established
+
+-- those of the clients of these numbers, one after the other
+abbrev pub rows_for : List Client → List ℕ → List Row
+rows_for clients [] = []
+rows_for clients (n ∷ numbers) = rows_at n (slice_get clients n) ++ rows_for clients numbers
+
+-- the moment at which a client was established
+abbrev pub since_of : Option Established → ℕ
+since_of None = 0
+since_of (Some e) = e.since
+
+-- that of the client of a number
+abbrev pub since_at : Option Client → ℕ
+since_at None = 0
+since_at (Some x) = since_of x.established
+
+-- each of these clients was established at the moment of the ones behind it, or before
+abbrev pub AreInTime : List Client → List ℕ → Type 0
+AreInTime clients [] = Unit {0}
+AreInTime clients (n ∷ numbers) =
+    AllByRecursion (λ m. since_at (slice_get clients n) ≤ since_at (slice_get clients m)) numbers × AreInTime clients numbers
+
+-- no number stands twice
+abbrev pub AreDistinct : List ℕ → Type 0
+AreDistinct [] = Unit {0}
+AreDistinct (n ∷ numbers) = AllByRecursion (λ m. m ≡ n → ⊥) numbers × AreDistinct numbers
+
+-- The rows are those of the clients that are here and established, each once, in the order in which they were established.
+pub record AreThoseEstablished (clients : List Client) (moment : ℕ) (rows : List Row) : Type 0 where
+  pub order : List ℕ
+  pub established : AllByRecursion (IsEstablishedAt clients) order
+  pub all : (n : ℕ) → IsEstablishedAt clients n → IsAmong order n
+  pub distinct : AreDistinct order
+  pub in_time : AreInTime clients order
+  pub until : AllByRecursion (λ n. since_at (slice_get clients n) ≤ moment) order
+  pub are_theirs : rows ≡ rows_for clients order
+
+-- ---- the hosts
+
+-- each learned host was learned from its owner
+abbrev pub AreOfOwners : List Row → List Host → Type 0
+AreOfOwners rows hosts = AllByRecursion (λ (host : Host). owner rows host.0 ≡ Some host.1) hosts
+
+-- ---- the clients
+
+-- a file is known
+abbrev pub IsKnown : FileState → Type 0
+IsKnown (Known ccd) = Unit {0}
+IsKnown _ = ⊥
+
+-- some key session has, or had, keys
+abbrev pub HaveKeys : List Session → Type 0
+HaveKeys sessions = list_any has_keys sessions ≡ true
+
+-- This end is its server. A client that asked to be established, or that is, has keys; and one that has keys has its file.
+pub record IsClientKept (x : Client) : Type 0 where
+  pub role : x.session.role ≡ Server
+  pub asked : x.session.asks_push ≡ true → HaveKeys x.session.sessions
+  pub established : is_some x.established ≡ true → HaveKeys x.session.sessions
+  pub known : HaveKeys x.session.sessions → IsKnown x.file
+
+-- ---- the table
+
+-- The rows are those of the established clients in order of establishing, each learned host is owned by the client that it was learned from,
+-- established clients have keys, and no more packets wait for the device than may.
+pub record IsWellKept (t : Table) : Type 0 where
+  pub moment : t.moment ≤ 2 ^ 52
+  pub rows : AreThoseEstablished t.clients t.moment t.routes.rows
+  pub hosts : AreOfOwners t.routes.rows t.routes.learned
+  pub clients : (n : ℕ) (x : Client) → slice_get t.clients n ≡ Some x → IsClientKept x
+  pub queue : length t.queue ≤ most_queued
