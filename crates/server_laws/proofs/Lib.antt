@@ -4,3 +4,6 @@ pub mod Closed
 pub mod ClosedEngine
 pub mod Verdicts
 pub mod ClosedSteps
+pub mod Rows
+pub mod Everything
+pub mod KeptTables

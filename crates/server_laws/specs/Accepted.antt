@@ -1,6 +1,5 @@
 -- What it means that a data packet of a client opens, for the first time and under a usable key.
-use Rattle.std.specs.Prelude.{◌≡◌, ℕ, List, Some, Ok, slice_get}
-use Rattle.std.specs.List.{IsAmong}
+use Rattle.std.specs.Prelude.{◌≡◌, ◌⊎◌, ℕ, List, [], ◌∷◌, Some, Ok, slice_get}
 use Rattle.vpn_base.specs.declared.names.Freshness.TheVariants.{Fresh}
 use Rattle.vpn_base.specs.declared.names.Role.TheVariants as roles
 use Rattle.packet_ids.specs.Freshness.{freshness}
@@ -10,6 +9,11 @@ use Rattle.peer_table.specs.KeySessions.{Keys, Session, keys_of, kid_of, usable}
 use Rattle.peer_table.specs.DataPackets.{data_kid, opened_under}
 use Rattle.server_table.specs.Table.{Client, Table}
 use Rattle.server_table.specs.Lookups.{client_here}
+
+-- a number is one of these
+abbrev pub IsOneOf : List ℕ → ℕ → Type 0
+IsOneOf [] n = ⊥
+IsOneOf (m ∷ numbers) n = (n ≡ m) ⊎ IsOneOf numbers n
 
 -- At this moment, over this table, the datagram is a data packet of the client of number `n`, which is here and has the peer id that stands
 -- in it; key session `k` of this client is usable, has the packet's key id, and has keys; under these keys the datagram opens to packet id
@@ -22,7 +26,7 @@ pub record IsAccepted (t : Table) (moment : ℕ) (datagram : List ℕ) (n k id :
   pub peer_id : client.peer_id ≡ form.peer
   pub session : Session
   pub session_there : slice_get client.session.sessions k ≡ Some session
-  pub is_usable : IsAmong (usable client.session.timers moment client.session.sessions) k
+  pub is_usable : IsOneOf (usable client.session.timers moment client.session.sessions) k
   pub key_id : kid_of k ≡ data_kid datagram
   pub keys : Keys
   pub has_keys : keys_of session.stage ≡ Some keys

@@ -4,6 +4,8 @@ use Rattle.std.specs.List.{filter, list_all}
 use Rattle.vpn_base.specs.declared.names.Cid.{Cid}
 use Rattle.vpn_base.specs.declared.names.Role.TheVariants as roles
 use Rattle.vpn_links.specs.Actions.{Action, Device, Report, Wire}
+use Rattle.vpn_links.specs.declared.events.Kind.{Kind}
+use Rattle.vpn_links.specs.declared.events.Kind.TheVariants.{Datagram, DeviceIn, DeviceReady, Tick}
 use Rattle.vpn_links.specs.declared.notes.Note.{Note}
 use Rattle.vpn_links.specs.declared.notes.Note.TheVariants as notes
 use Rattle.ip_packets.specs.Inner.{source}
@@ -127,3 +129,13 @@ pub data BringsOne (t : Table) (moment : ℕ) (datagram : List ℕ) (c : Course)
   BringsNone : c.table.queue ≡ t.queue → carrying c.effects ≡ [] → BringsOne t moment datagram c
   Brings : (n k id : ℕ) (inner : List ℕ) → IsAccepted t moment datagram n k id inner → owner t.routes.rows (source inner) ≡ Some (cid n) →
       IsHandedOn t (Some n) inner c → BringsOne t moment datagram c
+
+-- ---- other events
+
+-- whether an event neither brings a packet nor takes one, nor lets time pass
+abbrev pub IsQuiet : Kind → Type 0
+IsQuiet (Datagram from bytes) = ⊥
+IsQuiet (DeviceIn bytes) = ⊥
+IsQuiet DeviceReady = ⊥
+IsQuiet Tick = ⊥
+IsQuiet _ = Unit {0}

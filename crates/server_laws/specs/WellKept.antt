@@ -1,6 +1,6 @@
 -- What holds of every table that a run comes to, of its rows, its learned hosts, its clients and its queue.
 use Rattle.std.specs.Prelude.{◌≡◌, ℕ, ◌≤◌, ◌^◌, is_some, Bool, true, List, [], ◌∷◌, ◌++◌, length, Option, Some, None, slice_get}
-use Rattle.std.specs.List.{AllByRecursion, IsAmong, list_any}
+use Rattle.std.specs.List.{AllByRecursion, list_any}
 use Rattle.ccd_files.specs.declared.client_file.Ccd.{Ccd}
 use Rattle.vpn_base.specs.declared.names.Role.TheVariants.{Server}
 use Rattle.route_table.specs.Owner.{Row, owner}
@@ -11,6 +11,7 @@ use Rattle.server_table.specs.Lookups.{cid}
 use Rattle.server_table.specs.Establishing.{networks_of}
 use Rattle.server_table.specs.InnerPackets.{most_queued}
 use Rattle.server_table.specs.Sound.{IsEstablishedAt}
+use Rattle.server_laws.specs.Accepted.{IsOneOf}
 
 -- ---- the rows
 
@@ -54,7 +55,7 @@ AreDistinct (n ∷ numbers) = AllByRecursion (λ m. m ≡ n → ⊥) numbers × 
 pub record AreThoseEstablished (clients : List Client) (moment : ℕ) (rows : List Row) : Type 0 where
   pub order : List ℕ
   pub established : AllByRecursion (IsEstablishedAt clients) order
-  pub all : (n : ℕ) → IsEstablishedAt clients n → IsAmong order n
+  pub all : (n : ℕ) → IsEstablishedAt clients n → IsOneOf order n
   pub distinct : AreDistinct order
   pub in_time : AreInTime clients order
   pub until : AllByRecursion (λ n. since_at (slice_get clients n) ≤ moment) order
