@@ -234,7 +234,7 @@ module _ {P : Course → Type 0} (closed : IsClosed P) where
     learned_where_kept lacks n host c true owned is = learned_unless_kept n host c (lacks && not (is_learned c.table.routes.learned host)) owned is
     learned_where_kept lacks n host c false owned is = is
 
-    learned_kept : (lacks : Bool) (n : ℕ) (host : Ip4) (c : Course) → owner c.table.routes.rows host ≡ Some (cid n) → P c → P (learned lacks n host c)
+    pub learned_kept : (lacks : Bool) (n : ℕ) (host : Ip4) (c : Course) → owner c.table.routes.rows host ≡ Some (cid n) → P c → P (learned lacks n host c)
     unfolding learned
     learned_kept lacks n host c owned is = learned_where_kept lacks n host c (is_host_of host (client_here c.table n)) owned is
 
@@ -273,7 +273,7 @@ module _ {P : Course → Type 0} (closed : IsClosed P) where
     carried_as_kept lacks n inner c false is =
         passed_kept lacks n inner c (verdict c.table.routes.rows c.table.settings.net c.table.settings.between (Some (cid n)) inner) refl is
 
-    carried_kept : (lacks : Bool) (n : ℕ) (inner : List ℕ) (c : Course) → P c → P (carried lacks n inner c)
+    pub carried_kept : (lacks : Bool) (n : ℕ) (inner : List ℕ) (c : Course) → P c → P (carried lacks n inner c)
     unfolding carried
     carried_kept lacks n inner c is = carried_as_kept lacks n inner c (bytes_eq inner ping) is
 

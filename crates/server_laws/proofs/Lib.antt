@@ -7,3 +7,5 @@ pub mod ClosedSteps
 pub mod Rows
 pub mod Everything
 pub mod KeptTables
+pub mod Opening
+pub mod Dealing
