@@ -9,3 +9,6 @@ pub mod Everything
 pub mod KeptTables
 pub mod Opening
 pub mod Dealing
+pub mod Quiet
+pub mod Ids
+pub mod Steps

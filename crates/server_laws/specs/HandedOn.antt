@@ -1,6 +1,7 @@
 -- What becomes of an inner packet: it is handed on, or the step reports why it is not.
 use Rattle.std.specs.Prelude.{◌≡◌, ◌≢◌, ℕ, ◌≤◌, ◌-◌, ◌^◌, Bool, true, false, List, [], ◌∷◌, ◌++◌, length, Option, Some, None, slice_get}
 use Rattle.std.specs.List.{filter, list_all}
+use Rattle.vpn_base.specs.declared.address.Addr.{Addr}
 use Rattle.vpn_base.specs.declared.names.Cid.{Cid}
 use Rattle.vpn_base.specs.declared.names.Role.TheVariants as roles
 use Rattle.vpn_links.specs.Actions.{Action, Device, Report, Wire}
@@ -139,3 +140,11 @@ IsQuiet (DeviceIn bytes) = ⊥
 IsQuiet DeviceReady = ⊥
 IsQuiet Tick = ⊥
 IsQuiet _ = Unit {0}
+
+-- the effect sends a ping, sealed under some keys of the server's
+pub record IsSealedPing (action : Action) : Type 0 where
+  pub to : Addr
+  pub keys : Keys
+  pub number : ℕ
+  pub id : ℕ
+  pub is_packet : action ≡ Wire to (sealed_under roles.Server keys (kid_of number) id ping)
