@@ -13,7 +13,7 @@ use Rattle.vpn_base.specs.Network.{Network, contains}
 use Rattle.vpn_links.specs.Actions.{Action, Report, Wire, on_wire}
 use Rattle.vpn_links.specs.declared.notes.Note.{Note}
 use Rattle.vpn_links.specs.declared.notes.Note.TheVariants as notes
-use Rattle.ip_packets.specs.Inner.{source}
+use Rattle.ip_packets.specs.Inner.{destination, source}
 use Rattle.packet_ids.specs.declared.sending.Spent as sending
 use Rattle.route_table.specs.Owner.{Row, best_row, better, owner}
 use Rattle.route_table.specs.Learned.{is_learned, rows_of}
@@ -287,6 +287,11 @@ goes_to n inner c good e =
     let same : e.client ≡ x = some_same (sym e.there ∙ there) in
     let k = good.clients n x there in
     (k.role, k.established (subst (λ (y : Client). is_some y.established ≡ true) same e.established)))
+
+-- the client that the verdict names owns the destination
+pub target_owns : (t : Table) (from : Option ℕ) (inner : List ℕ) (target : Cid) → verdict_on t from inner ≡ ToClient target → owner t.routes.rows (destination inner) ≡ Some target
+target_owns t None inner target v = target_of t.routes.rows t.settings.net t.settings.between None inner target v
+target_owns t (Some n) inner target v = target_of t.routes.rows t.settings.net t.settings.between (Some (cid n)) inner target v
 
 -- the client that the verdict names is here and established
 target_established : (from : Option ℕ) (inner : List ℕ) (target : Cid) (c : Course) → verdict_on c.table from inner ≡ ToClient target → Good c → IsEstablishedAt c.table.clients target.0

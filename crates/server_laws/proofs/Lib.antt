@@ -12,3 +12,5 @@ pub mod Dealing
 pub mod Quiet
 pub mod Ids
 pub mod Steps
+pub mod Queue
+pub mod Runs

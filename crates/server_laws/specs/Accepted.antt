@@ -1,7 +1,10 @@
 -- What it means that a data packet of a client opens, for the first time and under a usable key.
-use Rattle.std.specs.Prelude.{◌≡◌, ◌⊎◌, ℕ, List, [], ◌∷◌, Some, Ok, slice_get}
+use Rattle.std.specs.Prelude.{◌≡◌, ◌⊎◌, ℕ, List, [], ◌∷◌, false, Some, Ok, slice_get}
+use Rattle.vpn_base.specs.declared.address.Addr.{Addr}
 use Rattle.vpn_base.specs.declared.names.Freshness.TheVariants.{Fresh}
 use Rattle.vpn_base.specs.declared.names.Role.TheVariants as roles
+use Rattle.vpn_links.specs.declared.events.Event.{Event}
+use Rattle.vpn_links.specs.declared.events.Kind.TheVariants.{Datagram}
 use Rattle.packet_ids.specs.Freshness.{freshness}
 use Rattle.opcode_codec.specs.DataPacket.{DataForm}
 use Rattle.opcode_codec.specs.Packet.{Inner, packet_of}
@@ -9,6 +12,7 @@ use Rattle.peer_table.specs.KeySessions.{Keys, Session, keys_of, kid_of, usable}
 use Rattle.peer_table.specs.DataPackets.{data_kid, opened_under}
 use Rattle.server_table.specs.Table.{Client, Table}
 use Rattle.server_table.specs.Lookups.{client_here}
+use Rattle.server_table.specs.Step.{is_over, moment_of}
 
 -- a number is one of these
 abbrev pub IsOneOf : List ℕ → ℕ → Type 0
@@ -32,3 +36,11 @@ pub record IsAccepted (t : Table) (moment : ℕ) (datagram : List ℕ) (n k id :
   pub has_keys : keys_of session.stage ≡ Some keys
   pub opens : opened_under roles.Client keys (kid_of k) datagram ≡ Some (id, inner)
   pub is_fresh : freshness session.received id (record { 0 = moment }) ≡ Fresh
+
+-- A server that takes events still accepts a data packet in this event.
+pub record Accepts (t : Table) (event : Event) (n k id : ℕ) (inner : List ℕ) : Type 0 where
+  pub is_taken : is_over t ≡ false
+  pub from : Addr
+  pub datagram : List ℕ
+  pub comes : event.kind ≡ Datagram from datagram
+  pub accepted : IsAccepted t (moment_of t event) datagram n k id inner

@@ -122,6 +122,22 @@ pub data IsDealtWith (t : Table) (from : Option ℕ) (inner : List ℕ) (c : Cou
   GoesOn : IsHandedOn t from inner c → IsDealtWith t from inner c
   IsReported : (note : Note) → IsReason t c.table from inner note → c.table.queue ≡ t.queue → DoesLast (Report note ∷ []) c → IsDealtWith t from inner c
 
+-- ---- a packet that passes the verdict
+
+-- whether the verdict sends a packet on
+abbrev pub IsForward : Verdict → Type 0
+IsForward (verdicts.ToClient target) = Unit {0}
+IsForward verdicts.ToDevice = Unit {0}
+IsForward _ = ⊥
+
+-- it is handed on; or the client that it is for has used its last packet id, or as many packets wait for the device as may, and that alone is
+-- reported
+pub data IsSentOn (t : Table) (n : ℕ) (inner : List ℕ) (c : Course) : Type 0 where
+  IsOn : IsHandedOn t (Some n) inner c → IsSentOn t n inner c
+  IsSpent : (target : Cid) → verdict_on t (Some n) inner ≡ verdicts.ToClient target → IsKeySpent c.table target.0 →
+      DoesLast (Report (notes.KeySpent target) ∷ []) c → IsSentOn t n inner c
+  IsFull : verdict_on t (Some n) inner ≡ verdicts.ToDevice → most_queued ≤ length t.queue → DoesLast (Report (notes.QueueFull (cid n)) ∷ []) c → IsSentOn t n inner c
+
 -- ---- what a datagram brings
 
 -- A datagram hands nothing on: the queue stays, and no effect carries a packet. Or it brings one packet: it is the data packet of a client, is
