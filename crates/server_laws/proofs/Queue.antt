@@ -95,11 +95,11 @@ Balances t kind c = t.queue ++ appended t kind c.table ≡ given (outs c) ++ c.t
 stays_balanced : (t : Table) (kind : Kind) (c : Course) → c.table.queue ≡ t.queue → given (outs c) ≡ [] → Balances t kind c
 stays_balanced t kind c same none = appended_none t kind c.table same ∙ ap (λ (packets : List (List ℕ)). packets ++ c.table.queue) (sym none)
 
-brings_balanced : (t : Table) (m : ℕ) (from : Addr) (bytes : List ℕ) (c : Course) → BringsOne t m bytes c → Balances t (Datagram from bytes) c
-brings_balanced t m from bytes c (BringsNone same none) = stays_balanced t (Datagram from bytes) c same (no_effects_given c (none_given c.effects none))
-brings_balanced t m from bytes c (Brings n k id inner accepted owned (IsSealed target action v sealed same does)) =
+brings_balanced : (t : Table) (event : Event) (from : Addr) (bytes : List ℕ) (c : Course) → BringsOne t event c → Balances t (Datagram from bytes) c
+brings_balanced t event from bytes c (BringsNone same none) = stays_balanced t (Datagram from bytes) c same (no_effects_given c (none_given c.effects none))
+brings_balanced t event from bytes c (Brings n k id inner accepted owned (IsSealed target action v sealed same does)) =
     stays_balanced t (Datagram from bytes) c same (last_given (action ∷ []) c (sealed_given c.table target inner action sealed) does)
-brings_balanced t m from bytes c (Brings n k id inner accepted owned (IsQueued v more does)) =
+brings_balanced t event from bytes c (Brings n k id inner accepted owned (IsQueued v more does)) =
     appended_is t.queue c.table.queue (inner ∷ []) more ∙ ap (λ (packets : List (List ℕ)). packets ++ c.table.queue) (sym (last_given [] c refl does))
 
 device_balanced : (t : Table) (bytes : List ℕ) (c : Course) → IsDealtWith t None bytes c → Balances t (DeviceIn bytes) c
@@ -142,23 +142,23 @@ module _ (t : Table) (event : Event) (kept : IsWellKept t) where
       let k = (tick_came lacks).1 in
       stays_balanced t Tick c k.queue_same (no_effects_given c (given_carrying c.effects ∙ pings_given (carrying c.effects) k.pings))
 
-  came_balanced : (lacks : Bool) (kind : Kind) → Balances t kind (came lacks event.draw kind (course_begun t event))
-  came_balanced lacks (Datagram from bytes) =
-      brings_balanced t (moment_of t event) from bytes (came lacks event.draw (Datagram from bytes) (course_begun t event)) (came_brings t event kept lacks from bytes)
-  came_balanced lacks (DeviceIn bytes) = device_balanced t bytes (came lacks event.draw (DeviceIn bytes) (course_begun t event)) (device_came lacks bytes)
-  came_balanced lacks DeviceReady = ready_came lacks
-  came_balanced lacks Tick = tick_balanced lacks
-  came_balanced lacks (EngineText conn bytes) = quiet_balanced lacks t event (EngineText conn bytes) tt
-  came_balanced lacks (EnginePlain conn bytes) = quiet_balanced lacks t event (EnginePlain conn bytes) tt
-  came_balanced lacks (EngineUp conn name) = quiet_balanced lacks t event (EngineUp conn name) tt
-  came_balanced lacks (EngineDown conn) = quiet_balanced lacks t event (EngineDown conn) tt
-  came_balanced lacks (File id answer) = quiet_balanced lacks t event (File id answer) tt
-  came_balanced lacks (Line bytes) = quiet_balanced lacks t event (Line bytes) tt
-  came_balanced lacks Halt = quiet_balanced lacks t event Halt tt
+  came_balanced : (lacks : Bool) (kind : Kind) → is_over t ≡ false → event.kind ≡ kind → Balances t kind (came lacks event.draw kind (course_begun t event))
+  came_balanced lacks (Datagram from bytes) goes is =
+      brings_balanced t event from bytes (came lacks event.draw (Datagram from bytes) (course_begun t event)) (came_brings t event kept goes lacks from bytes is)
+  came_balanced lacks (DeviceIn bytes) goes is = device_balanced t bytes (came lacks event.draw (DeviceIn bytes) (course_begun t event)) (device_came lacks bytes)
+  came_balanced lacks DeviceReady goes is = ready_came lacks
+  came_balanced lacks Tick goes is = tick_balanced lacks
+  came_balanced lacks (EngineText conn bytes) goes is = quiet_balanced lacks t event (EngineText conn bytes) tt
+  came_balanced lacks (EnginePlain conn bytes) goes is = quiet_balanced lacks t event (EnginePlain conn bytes) tt
+  came_balanced lacks (EngineUp conn name) goes is = quiet_balanced lacks t event (EngineUp conn name) tt
+  came_balanced lacks (EngineDown conn) goes is = quiet_balanced lacks t event (EngineDown conn) tt
+  came_balanced lacks (File id answer) goes is = quiet_balanced lacks t event (File id answer) tt
+  came_balanced lacks (Line bytes) goes is = quiet_balanced lacks t event (Line bytes) tt
+  came_balanced lacks Halt goes is = quiet_balanced lacks t event Halt tt
 
   step_balanced : (lacks : Bool) → Balances t event.kind (step lacks t event)
   step_balanced lacks =
-      by_over (Balances t event.kind) lacks t event (stays_balanced t event.kind (course_of t) refl refl) (λ goes. came_balanced lacks event.kind)
+      by_over (Balances t event.kind) lacks t event (stays_balanced t event.kind (course_of t) refl refl) (λ goes. came_balanced lacks event.kind goes refl)
 
   -- the same for an event of which something may lack
   lacking_balanced : (lack : Lack) → t.queue ++ appended t event.kind (after_lacking t event lack) ≡ given (outs_lacking t event lack) ++ (after_lacking t event lack).queue

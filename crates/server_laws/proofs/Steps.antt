@@ -33,7 +33,7 @@ use Rattle.server_table.specs.DataDatagrams.{FromWire, accepted, carried, data_a
 use Rattle.server_table.specs.InnerPackets.{dequeued, device_ready}
 use Rattle.server_table.specs.Sound.{AtMostOne, IsSound}
 use Rattle.server_table.specs.Step.{came, course_begun, course_of, datagram_as, device_came, is_over, moment_of, step, step_if}
-use Rattle.server_laws.specs.Accepted.{IsAccepted}
+use Rattle.server_laws.specs.Accepted.{Accepts, IsAccepted}
 use Rattle.server_laws.specs.HandedOn.{Brings, BringsNone, BringsOne, DoesLast, GoesOn, IsDealtWith, IsHandedOn, IsQueued, IsQuiet, IsReported, IsSealed, carrying}
 use Rattle.server_laws.specs.WellKept.{IsWellKept}
 use Rattle.server_laws.proofs.Places.{first_is, get_changed, none_passes, none_some, some_same}
@@ -115,10 +115,10 @@ owner_of : (t : Table) (n : ℕ) (inner : List ℕ) (c : Course) → IsHandedOn 
 owner_of t n inner c (IsQueued v queue does) = owned_to_device t.routes.rows t.settings.net t.settings.between n inner v
 owner_of t n inner c (IsSealed target action v sealed queue does) = owned_to_client t.routes.rows t.settings.net t.settings.between n inner (cid target) v
 
-dealt_brings : (t : Table) (m : ℕ) (bytes : List ℕ) (n k id : ℕ) (inner : List ℕ) (c : Course) → IsAccepted t m bytes n k id inner → IsDealtWith t (Some n) inner c →
-    BringsOne t m bytes c
-dealt_brings t m bytes n k id inner c accepted (GoesOn on) = Brings n k id inner accepted (owner_of t n inner c on) on
-dealt_brings t m bytes n k id inner c accepted (IsReported note why queue does) = BringsNone queue (quiet_last (Report note ∷ []) c refl does)
+dealt_brings : (t : Table) (event : Event) (n k id : ℕ) (inner : List ℕ) (c : Course) → Accepts t event n k id inner → IsDealtWith t (Some n) inner c →
+    BringsOne t event c
+dealt_brings t event n k id inner c accepts (GoesOn on) = Brings n k id inner accepts (owner_of t n inner c on) on
+dealt_brings t event n k id inner c accepts (IsReported note why queue does) = BringsNone queue (quiet_last (Report note ∷ []) c refl does)
 
 accepted_about : (t : Table) (event : Event) (d : FromWire) (n : ℕ) (x : Client) → IsWellKept t → client_here (course_begun t event).table n ≡ Some x →
     IsAbout t (accepted d n x (course_begun t event) (packets.data_came d.bytes (record { 0 = moment_of t event }) x.session).peer)
@@ -131,13 +131,13 @@ accepted_about t event d n x is here = record {
   good = accepted_kept good_closed d n x (course_begun t event) here (good_begun t event is);
 }
 
-refused_none : (t : Table) (event : Event) (m : ℕ) (bytes : List ℕ) (d : FromWire) (n : ℕ) (x : Client) (fault : SessionFault) →
-    BringsOne t m bytes (refused d n x (course_begun t event) fault)
-refused_none t event m bytes d n x (faults.BadKey kid) = BringsNone refl refl
-refused_none t event m bytes d n x faults.NotSealed = BringsNone refl refl
-refused_none t event m bytes d n x (faults.Stale kind id greatest) = BringsNone refl refl
+refused_none : (t : Table) (event : Event) (d : FromWire) (n : ℕ) (x : Client) (fault : SessionFault) →
+    BringsOne t event (refused d n x (course_begun t event) fault)
+refused_none t event d n x (faults.BadKey kid) = BringsNone refl refl
+refused_none t event d n x faults.NotSealed = BringsNone refl refl
+refused_none t event d n x (faults.Stale kind id greatest) = BringsNone refl refl
 
-module _ (t : Table) (event : Event) (kept : IsWellKept t) where
+module _ (t : Table) (event : Event) (kept : IsWellKept t) (goes : is_over t ≡ false) where
   -- what an answer tells, in the words of the laws
   accepted_as : (d : FromWire) (f : DataForm) (n : ℕ) (x : Client) (inner : List ℕ) → packet_of d.bytes ≡ Ok (Inner f) → client_here t n ≡ Some x → x.peer_id ≡ f.peer →
       (o : OpenedAs x.session (record { 0 = moment_of t event }) d.bytes inner) → IsAccepted t (moment_of t event) d.bytes n o.number o.id inner
@@ -160,22 +160,22 @@ module _ (t : Table) (event : Event) (kept : IsWellKept t) where
         is_fresh = o.fresh;
       }
 
-  as_brings : (d : FromWire) (f : DataForm) (n : ℕ) (x : Client) (r : Result (List ℕ) SessionFault) → packet_of d.bytes ≡ Ok (Inner f) → client_here t n ≡ Some x → x.peer_id ≡ f.peer →
+  as_brings : (d : FromWire) (f : DataForm) (n : ℕ) (x : Client) (r : Result (List ℕ) SessionFault) → event.kind ≡ Datagram d.from d.bytes → packet_of d.bytes ≡ Ok (Inner f) → client_here t n ≡ Some x → x.peer_id ≡ f.peer →
       (packets.data_came d.bytes (record { 0 = moment_of t event }) x.session).answer ≡ r →
-      BringsOne t (moment_of t event) d.bytes (opened_as d n x (course_begun t event) (packets.data_came d.bytes (record { 0 = moment_of t event }) x.session).peer r)
-  as_brings d f n x (Err fault) is_inner here peer is = refused_none t event (moment_of t event) d.bytes d n x fault
-  as_brings d f n x (Ok inner) is_inner here peer is =
+      BringsOne t event (opened_as d n x (course_begun t event) (packets.data_came d.bytes (record { 0 = moment_of t event }) x.session).peer r)
+  as_brings d f n x (Err fault) comes is_inner here peer is = refused_none t event d n x fault
+  as_brings d f n x (Ok inner) comes is_inner here peer is =
       let o = answer_tells x.session (record { 0 = moment_of t event }) d.bytes inner is in
       let e = accepted d n x (course_begun t event) (packets.data_came d.bytes (record { 0 = moment_of t event }) x.session).peer in
       let about = moved_about n d.from x e (accepted_about t event d n x kept (here_begun t event n ∙ here)) in
-      dealt_brings t (moment_of t event) d.bytes n o.number o.id inner (carried d.lacks n inner (moved n d.from x e))
-      (accepted_as d f n x inner is_inner here peer o) (carried_dealt d.lacks n inner (moved n d.from x e) about)
+      dealt_brings t event n o.number o.id inner (carried d.lacks n inner (moved n d.from x e))
+      (record { is_taken = goes; from = d.from; datagram = d.bytes; comes = comes; accepted = accepted_as d f n x inner is_inner here peer o }) (carried_dealt d.lacks n inner (moved n d.from x e) about)
 
-  for_brings : (d : FromWire) (f : DataForm) (n : ℕ) (x : Option Client) → packet_of d.bytes ≡ Ok (Inner f) → client_here t n ≡ x → ((y : Client) → x ≡ Some y → y.peer_id ≡ f.peer) →
-      BringsOne t (moment_of t event) d.bytes (data_for d n (course_begun t event) x)
-  for_brings d f n None is_inner here peer = BringsNone refl refl
-  for_brings d f n (Some x) is_inner here peer =
-      as_brings d f n x (packets.data_came d.bytes (record { 0 = moment_of t event }) x.session).answer is_inner here (peer x refl) refl
+  for_brings : (d : FromWire) (f : DataForm) (n : ℕ) (x : Option Client) → event.kind ≡ Datagram d.from d.bytes → packet_of d.bytes ≡ Ok (Inner f) → client_here t n ≡ x → ((y : Client) → x ≡ Some y → y.peer_id ≡ f.peer) →
+      BringsOne t event (data_for d n (course_begun t event) x)
+  for_brings d f n None comes is_inner here peer = BringsNone refl refl
+  for_brings d f n (Some x) comes is_inner here peer =
+      as_brings d f n x (packets.data_came d.bytes (record { 0 = moment_of t event }) x.session).answer comes is_inner here (peer x refl) refl
 
   peer_of : (n peer : ℕ) → by_peer_id (course_begun t event).table peer ≡ Some n → (y : Client) → client_here t n ≡ Some y → y.peer_id ≡ peer
   unfolding by_peer_id
@@ -184,38 +184,36 @@ module _ (t : Table) (event : Event) (kept : IsWellKept t) where
       let same : f.item ≡ y = some_same (sym f.there ∙ (here_at t n y here).there) in
       subst (λ (z : Client). z.peer_id ≡ peer) same (eqb-true f.item.peer_id peer (and_parts f.item.is_here (f.item.peer_id == peer) f.passed).1)
 
-  at_brings : (d : FromWire) (f : DataForm) (n : Option ℕ) → packet_of d.bytes ≡ Ok (Inner f) → by_peer_id (course_begun t event).table f.peer ≡ n →
-      BringsOne t (moment_of t event) d.bytes (data_at d f.peer (course_begun t event) n)
-  at_brings d f None is_inner found = BringsNone refl refl
-  at_brings d f (Some n) is_inner found =
-      subst (λ (x : Option Client). BringsOne t (moment_of t event) d.bytes (data_for d n (course_begun t event) x)) (sym (here_begun t event n))
-      (for_brings d f n (client_here t n) is_inner refl (λ y here. peer_of n f.peer found y here))
+  at_brings : (d : FromWire) (f : DataForm) (n : Option ℕ) → event.kind ≡ Datagram d.from d.bytes → packet_of d.bytes ≡ Ok (Inner f) → by_peer_id (course_begun t event).table f.peer ≡ n →
+      BringsOne t event (data_at d f.peer (course_begun t event) n)
+  at_brings d f None comes is_inner found = BringsNone refl refl
+  at_brings d f (Some n) comes is_inner found =
+      subst (λ (x : Option Client). BringsOne t event (data_for d n (course_begun t event) x)) (sym (here_begun t event n))
+      (for_brings d f n (client_here t n) comes is_inner refl (λ y here. peer_of n f.peer found y here))
 
-  data_brings : (d : FromWire) (f : DataForm) → packet_of d.bytes ≡ Ok (Inner f) → BringsOne t (moment_of t event) d.bytes (data_came d f (course_begun t event))
+  data_brings : (d : FromWire) (f : DataForm) → event.kind ≡ Datagram d.from d.bytes → packet_of d.bytes ≡ Ok (Inner f) → BringsOne t event (data_came d f (course_begun t event))
   unfolding data_came
-  data_brings d f is_inner = at_brings d f (by_peer_id (course_begun t event).table f.peer) is_inner refl
+  data_brings d f comes is_inner = at_brings d f (by_peer_id (course_begun t event).table f.peer) comes is_inner refl
 
-  quiet_brings : (bytes : List ℕ) (c : Course) → IsQuietly t c.table.settings c.table.queue c.effects → BringsOne t (moment_of t event) bytes c
-  quiet_brings bytes c is = BringsNone is.queue_same is.none
+  quiet_brings : (c : Course) → IsQuietly t c.table.settings c.table.queue c.effects → BringsOne t event c
+  quiet_brings c is = BringsNone is.queue_same is.none
 
-  datagram_brings : (d : FromWire) (draw : Draw) (p : Result PacketForm Malformed) → packet_of d.bytes ≡ p → BringsOne t (moment_of t event) d.bytes (datagram_as d draw (course_begun t event) p)
-  datagram_brings d draw (Err e) is = BringsNone refl refl
-  datagram_brings d draw (Ok (Wrapped op kid sid)) is =
-      quiet_brings d.bytes (control_arrived d draw op (course_begun t event))
+  datagram_brings : (d : FromWire) (draw : Draw) (p : Result PacketForm Malformed) → event.kind ≡ Datagram d.from d.bytes → packet_of d.bytes ≡ p → BringsOne t event (datagram_as d draw (course_begun t event) p)
+  datagram_brings d draw (Err e) comes is = BringsNone refl refl
+  datagram_brings d draw (Ok (Wrapped op kid sid)) comes is =
+      quiet_brings (control_arrived d draw op (course_begun t event))
       (arrived_kept (quiet_closed t) d draw op (course_begun t event) (record { settings_same = refl; queue_same = refl; none = refl }))
-  datagram_brings d draw (Ok (Inner f)) is = data_brings d f is
+  datagram_brings d draw (Ok (Inner f)) comes is = data_brings d f comes is
 
   -- what a datagram brings
-  pub came_brings : (lacks : Bool) (from : Addr) (bytes : List ℕ) → BringsOne t (moment_of t event) bytes (came lacks event.draw (Datagram from bytes) (course_begun t event))
+  pub came_brings : (lacks : Bool) (from : Addr) (bytes : List ℕ) → event.kind ≡ Datagram from bytes → BringsOne t event (came lacks event.draw (Datagram from bytes) (course_begun t event))
   unfolding came
-  came_brings lacks from bytes = datagram_brings (record { from = from; bytes = bytes; lacks = lacks }) event.draw (packet_of bytes) refl
+  came_brings lacks from bytes comes = datagram_brings (record { from = from; bytes = bytes; lacks = lacks }) event.draw (packet_of bytes) comes refl
 
-pub brings : (lacks : Bool) (t : Table) (event : Event) (from : Addr) (bytes : List ℕ) → IsWellKept t → event.kind ≡ Datagram from bytes →
-    BringsOne t (moment_of t event) bytes (step lacks t event)
+pub brings : (lacks : Bool) (t : Table) (event : Event) (from : Addr) (bytes : List ℕ) → IsWellKept t → event.kind ≡ Datagram from bytes → BringsOne t event (step lacks t event)
 brings lacks t event from bytes kept is =
-    by_over (BringsOne t (moment_of t event) bytes) lacks t event (BringsNone refl refl)
-    (λ goes. subst (λ (kind : Kind). BringsOne t (moment_of t event) bytes (came lacks event.draw kind (course_begun t event))) (sym is)
-    (came_brings t event kept lacks from bytes))
+    by_over (BringsOne t event) lacks t event (BringsNone refl refl)
+    (λ goes. subst (λ (kind : Kind). BringsOne t event (came lacks event.draw kind (course_begun t event))) (sym is) (came_brings t event kept goes lacks from bytes is))
 
 -- ---- an accepted packet is carried
 

@@ -5,6 +5,7 @@ use Rattle.vpn_base.specs.declared.address.Addr.{Addr}
 use Rattle.vpn_base.specs.declared.names.Cid.{Cid}
 use Rattle.vpn_base.specs.declared.names.Role.TheVariants as roles
 use Rattle.vpn_links.specs.Actions.{Action, Device, Report, Wire}
+use Rattle.vpn_links.specs.declared.events.Event.{Event}
 use Rattle.vpn_links.specs.declared.events.Kind.{Kind}
 use Rattle.vpn_links.specs.declared.events.Kind.TheVariants.{Datagram, DeviceIn, DeviceReady, Tick}
 use Rattle.vpn_links.specs.declared.notes.Note.{Note}
@@ -21,7 +22,7 @@ use Rattle.server_table.specs.Lookups.{cid, client_here}
 use Rattle.server_table.specs.Courses.{Course, outs}
 use Rattle.server_table.specs.InnerPackets.{most_queued}
 use Rattle.server_table.specs.DataDatagrams.{ping}
-use Rattle.server_laws.specs.Accepted.{IsAccepted}
+use Rattle.server_laws.specs.Accepted.{Accepts}
 
 -- ---- the verdict
 
@@ -140,12 +141,12 @@ pub data IsSentOn (t : Table) (n : ℕ) (inner : List ℕ) (c : Course) : Type 0
 
 -- ---- what a datagram brings
 
--- A datagram hands nothing on: the queue stays, and no effect carries a packet. Or it brings one packet: it is the data packet of a client, is
--- accepted, the client owns the packet's source by the rows of this table, and the packet is handed on.
-pub data BringsOne (t : Table) (moment : ℕ) (datagram : List ℕ) (c : Course) : Type 0 where
-  BringsNone : c.table.queue ≡ t.queue → carrying c.effects ≡ [] → BringsOne t moment datagram c
-  Brings : (n k id : ℕ) (inner : List ℕ) → IsAccepted t moment datagram n k id inner → owner t.routes.rows (source inner) ≡ Some (cid n) →
-      IsHandedOn t (Some n) inner c → BringsOne t moment datagram c
+-- A datagram hands nothing on: the queue stays, and no effect carries a packet. Or it brings one packet: the one that is accepted in this
+-- event, whose source its client owns by the rows of this table, and which is handed on.
+pub data BringsOne (t : Table) (event : Event) (c : Course) : Type 0 where
+  BringsNone : c.table.queue ≡ t.queue → carrying c.effects ≡ [] → BringsOne t event c
+  Brings : (n k id : ℕ) (inner : List ℕ) → Accepts t event n k id inner → owner t.routes.rows (source inner) ≡ Some (cid n) →
+      IsHandedOn t (Some n) inner c → BringsOne t event c
 
 -- ---- other events
 

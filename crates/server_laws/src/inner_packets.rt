@@ -18,7 +18,7 @@ ghost use Rattle.server_table.specs.Lookups.{cid};
 ghost use Rattle.server_table.specs.DataDatagrams.{ping};
 ghost use Rattle.server_table.specs.Runs.{Entry, MayLack, MayRun, after_all};
 ghost use Rattle.server_table.specs.Sealed.{OnlySealedOpen, SealedPacket};
-ghost use Rattle.server_table.specs.Step.{is_over, moment_of, step};
+ghost use Rattle.server_table.specs.Step.{is_over, step};
 ghost use Rattle.server_laws.specs.Accepted.{Accepts};
 ghost use Rattle.server_laws.specs.HandedOn.{BringsOne, IsDealtWith, IsForward, IsQuiet, IsSealedPing, IsSentOn, carrying, verdict_on};
 ghost use Rattle.server_laws.specs.Waiting.{all_appended, all_given};
@@ -39,8 +39,7 @@ pub fn tables_are_well_kept()
 pub fn packets_go_where_they_should()
     ensures { (settings : Settings) (key : List ℕ) (before : List Entry) (lacks : Bool) (event : Event) (from : Addr) (datagram : List ℕ) →
         event.kind ≡ Datagram from datagram →
-        BringsOne (after_all (table_begun settings key) before) (moment_of (after_all (table_begun settings key) before) event) datagram
-        (step lacks (after_all (table_begun settings key) before) event) }
+        BringsOne (after_all (table_begun settings key) before) event (step lacks (after_all (table_begun settings key) before) event) }
 {}
 
 /// No two events of a run have one packet id accepted under one key session of one client.
