@@ -33,13 +33,14 @@ use Rattle.server_table.specs.InnerPackets.{is_host_of, learned, learned_unless_
 use Rattle.server_table.specs.Establishing.{networks_of}
 use Rattle.server_table.specs.Sound.{IsEstablishedAt}
 use Rattle.server_table.specs.Step.{device_came, device_passed}
-use Rattle.server_laws.specs.HandedOn.{DoesLast, GoesOn, IsDealtWith, IsHandedOn, IsKeySpent, IsQueued, IsReason, IsReported, IsSealed, IsSealedTo, IsSpentFor, carrying, is_aside, is_carrying, verdict_on}
+use Rattle.server_laws.specs.HandedOn.{DoesLast, GoesOn, IsDealtWith, IsHandedOn, IsKeySpent, IsQueued, IsReason, IsReported, IsSealed, IsSealedTo, IsSpentFor, carrying, is_aside, is_carrying, sealed_by, sealed_in, verdict_on}
 use Rattle.server_laws.specs.WellKept.{AreThoseEstablished, HaveKeys, rows_at, rows_for, rows_with}
 use Rattle.server_laws.proofs.Places.{get_changed, none_some, some_same}
 use Rattle.server_laws.proofs.Closed.{DealsWith, IsClosed, here_at, here_from}
 use Rattle.server_laws.proofs.ClosedSteps.{learned_kept, moved_kept}
 use Rattle.server_laws.proofs.KeptTables.{Good, good_closed, good_deals}
 use Rattle.server_laws.proofs.Opening.{last_is}
+use Rattle.server_laws.proofs.Rows.{at_changed}
 use Rattle.server_laws.proofs.Verdicts.{client_has_route, device_needs_no_source, device_not_to_device, owned_to_client, owned_to_device, target_of}
 
 -- ---- what a step does
@@ -65,6 +66,7 @@ pub record IsAbout (t : Table) (c : Course) : Type 0 where
   pub settings : c.table.settings ≡ t.settings
   pub asides : list_all is_aside c.effects ≡ true
   pub staged : c.staged ≡ []
+  pub sealed : (n k : ℕ) → sealed_by k (slice_get c.table.clients n) ≡ sealed_by k (slice_get t.clients n)
   pub good : Good c
 
 verdict_same : {t : Table} {c : Course} → IsAbout t c → (from : Option ℕ) (inner : List ℕ) → verdict_on c.table from inner ≡ verdict_on t from inner
@@ -82,6 +84,7 @@ module _ {t : Table} where
     settings = is.settings;
     asides = asides_append c.effects (Report (notes.Moved (cid n) from) ∷ []) is.asides refl;
     staged = is.staged;
+    sealed = λ i k. at_changed (sealed_by k) n (λ (x : Client). record x { address = from }) c.table.clients i (λ y there e. refl) ∙ is.sealed i k;
     good = good;
   }
 
@@ -96,6 +99,7 @@ module _ {t : Table} where
     settings = is.settings;
     asides = asides_append c.effects (Report (notes.NotLearned (cid n) host) ∷ []) is.asides refl;
     staged = is.staged;
+    sealed = is.sealed;
     good = good;
   }
   learned_unless_about n host c false good is = record {
@@ -104,6 +108,7 @@ module _ {t : Table} where
     settings = is.settings;
     asides = is.asides;
     staged = is.staged;
+    sealed = is.sealed;
     good = good;
   }
 
@@ -234,7 +239,7 @@ sealed_answers p inner s =
 
 -- sealed, or the last packet id was used
 data GoesTo (n : ℕ) (inner : List ℕ) (c d : Course) : Type 0 where
-  Sent : (action : Action) → IsSealedTo d.table n inner action → d.effects ≡ c.effects ++ action ∷ [] → d.staged ≡ c.staged → d.table.queue ≡ c.table.queue → GoesTo n inner c d
+  Sent : (action : Action) → IsSealedTo c.table d.table n inner action → d.effects ≡ c.effects ++ action ∷ [] → d.staged ≡ c.staged → d.table.queue ≡ c.table.queue → GoesTo n inner c d
   Spent : IsKeySpent d.table n → d.effects ≡ c.effects ++ Report (notes.KeySpent (cid n)) ∷ [] → d.staged ≡ c.staged → d.table.queue ≡ c.table.queue → GoesTo n inner c d
 
 goes_by : (n : ℕ) (inner : List ℕ) (c : Course) (y : Client) (s : Sealer y.session) (b : Bool) → client_here c.table n ≡ Some y → y.session.role ≡ roles.Server →
@@ -267,6 +272,7 @@ goes_by n inner c y s false here role spent =
       keys = s.keys;
       has_keys = s.has;
       is_packet = ap (λ (role : Role). Wire y.address (packets.sealed_under role s.keys (kid_of s.number) (s.session.sealed + 1) inner)) role;
+      is_next = ap (λ (id : ℕ). id + 1) (sym (ap (sealed_by s.number) at.there ∙ ap (λ (o : Option Session). sealed_in o) s.there));
     }) refl refl refl
 
 goes_here : (n : ℕ) (inner : List ℕ) (c : Course) (y : Option Client) → client_here c.table n ≡ y → is_some y ≡ true →
@@ -302,12 +308,27 @@ target_established (Some n) inner target c v good =
     owner_established c.table.clients c.table.moment c.table.routes.rows _ target good.rows
     (target_of c.table.routes.rows c.table.settings.net c.table.settings.between (Some (cid n)) inner target v)
 
+-- what was sealed since a course begins, was since the table that the step found
+since_table : (t : Table) (c d : Course) (n : ℕ) (inner : List ℕ) (action : Action) → IsAbout t c → IsSealedTo c.table d.table n inner action → IsSealedTo t d.table n inner action
+since_table t c d n inner action is sealed = record {
+  client = sealed.client;
+  client_here = sealed.client_here;
+  number = sealed.number;
+  is_newest = sealed.is_newest;
+  session = sealed.session;
+  session_there = sealed.session_there;
+  keys = sealed.keys;
+  has_keys = sealed.has_keys;
+  is_packet = sealed.is_packet;
+  is_next = sealed.is_next ∙ ap (λ (id : ℕ). id + 1) (is.sealed n sealed.number);
+}
+
 module _ {t : Table} where
   -- a packet that the verdict sends to a client
   to_client_dealt : (from : Option ℕ) (inner : List ℕ) (target : Cid) (c d : Course) → verdict_on t from inner ≡ ToClient target → IsAbout t c → GoesTo target.0 inner c d →
       IsDealtWith t from inner d
   to_client_dealt from inner target c d v is (Sent action sealed effects staged queue) =
-      GoesOn (IsSealed target.0 action v sealed (queue ∙ is.queue) (does_last c.effects (action ∷ []) d is.asides effects (staged ∙ is.staged)))
+      GoesOn (IsSealed target.0 action v (since_table t c d target.0 inner action is sealed) (queue ∙ is.queue) (does_last c.effects (action ∷ []) d is.asides effects (staged ∙ is.staged)))
   to_client_dealt from inner target c d v is (Spent spent effects staged queue) =
       IsReported (notes.KeySpent target) (subst (λ (v : Verdict). IsSpentFor d.table target v) (sym v) (refl, spent)) (queue ∙ is.queue)
       (does_last c.effects (Report (notes.KeySpent target) ∷ []) d is.asides effects (staged ∙ is.staged))

@@ -63,8 +63,8 @@ last_given last c none does =
     ap (λ (actions : List Action). given actions) does.all ∙ given_append does.asides last
     ∙ ap₂ (λ (xs ys : List (List ℕ)). xs ++ ys) (none_given does.asides (asides_quiet does.asides does.are_asides)) none
 
-sealed_given : (t : Table) (n : ℕ) (inner : List ℕ) (action : Action) → IsSealedTo t n inner action → given (action ∷ []) ≡ []
-sealed_given t n inner action sealed = ap (λ (action : Action). given (action ∷ [])) sealed.is_packet
+sealed_given : (t later : Table) (n : ℕ) (inner : List ℕ) (action : Action) → IsSealedTo t later n inner action → given (action ∷ []) ≡ []
+sealed_given t later n inner action sealed = ap (λ (action : Action). given (action ∷ [])) sealed.is_packet
 
 given_carrying : (xs : List Action) → given xs ≡ given (carrying xs)
 given_carrying [] = refl
@@ -98,14 +98,14 @@ stays_balanced t kind c same none = appended_none t kind c.table same ∙ ap (λ
 brings_balanced : (t : Table) (event : Event) (from : Addr) (bytes : List ℕ) (c : Course) → BringsOne t event c → Balances t (Datagram from bytes) c
 brings_balanced t event from bytes c (BringsNone same none) = stays_balanced t (Datagram from bytes) c same (no_effects_given c (none_given c.effects none))
 brings_balanced t event from bytes c (Brings n k id inner accepted owned (IsSealed target action v sealed same does)) =
-    stays_balanced t (Datagram from bytes) c same (last_given (action ∷ []) c (sealed_given c.table target inner action sealed) does)
+    stays_balanced t (Datagram from bytes) c same (last_given (action ∷ []) c (sealed_given t c.table target inner action sealed) does)
 brings_balanced t event from bytes c (Brings n k id inner accepted owned (IsQueued v more does)) =
     appended_is t.queue c.table.queue (inner ∷ []) more ∙ ap (λ (packets : List (List ℕ)). packets ++ c.table.queue) (sym (last_given [] c refl does))
 
 device_balanced : (t : Table) (bytes : List ℕ) (c : Course) → IsDealtWith t None bytes c → Balances t (DeviceIn bytes) c
 device_balanced t bytes c (GoesOn (IsQueued v more does)) = absurd (device_not_to_device t.routes.rows t.settings.net t.settings.between bytes v)
 device_balanced t bytes c (GoesOn (IsSealed target action v sealed same does)) =
-    stays_balanced t (DeviceIn bytes) c same (last_given (action ∷ []) c (sealed_given c.table target bytes action sealed) does)
+    stays_balanced t (DeviceIn bytes) c same (last_given (action ∷ []) c (sealed_given t c.table target bytes action sealed) does)
 device_balanced t bytes c (IsReported note why same does) = stays_balanced t (DeviceIn bytes) c same (last_given (Report note ∷ []) c refl does)
 
 ready_balanced : (t : Table) (event : Event) (queue : List (List ℕ)) → t.queue ≡ queue → Balances t DeviceReady (dequeued (course_begun t event) queue)

@@ -20,8 +20,8 @@ use Rattle.server_laws.proofs.Places.{WasChanged, get_appended, get_changed, get
 
 -- ---- what is read of the client at a place
 
-pub at_changed : {X : Type 0} (F : Option Client → X) (n : ℕ) (f : Client → Client) (clients : List Client) (m : ℕ) →
-    ((y : Client) → slice_get clients n ≡ Some y → m ≡ n → F (Some (f y)) ≡ F (Some y)) → F (slice_get (changed_at n f clients) m) ≡ F (slice_get clients m)
+pub at_changed : {X Y : Type 0} (F : Option Y → X) (n : ℕ) (f : Y → Y) (clients : List Y) (m : ℕ) →
+    ((y : Y) → slice_get clients n ≡ Some y → m ≡ n → F (Some (f y)) ≡ F (Some y)) → F (slice_get (changed_at n f clients) m) ≡ F (slice_get clients m)
 at_changed F n f [] m same = refl
 at_changed F zero f (x ∷ clients) zero same = same x refl refl
 at_changed F zero f (x ∷ clients) (suc m) same = refl

@@ -34,7 +34,7 @@ use Rattle.server_table.specs.InnerPackets.{dequeued, device_ready}
 use Rattle.server_table.specs.Sound.{AtMostOne, IsSound}
 use Rattle.server_table.specs.Step.{came, course_begun, course_of, datagram_as, device_came, is_over, moment_of, step, step_if}
 use Rattle.server_laws.specs.Accepted.{Accepts, IsAccepted}
-use Rattle.server_laws.specs.HandedOn.{Brings, BringsNone, BringsOne, DoesLast, GoesOn, IsDealtWith, IsHandedOn, IsQueued, IsQuiet, IsReported, IsSealed, carrying}
+use Rattle.server_laws.specs.HandedOn.{Brings, BringsNone, BringsOne, DoesLast, GoesOn, IsDealtWith, IsHandedOn, IsQueued, IsQuiet, IsReported, IsSealed, carrying, sealed_by, sealed_in}
 use Rattle.server_laws.specs.WellKept.{IsWellKept}
 use Rattle.server_laws.proofs.Places.{first_is, get_changed, none_passes, none_some, some_same}
 use Rattle.server_laws.proofs.Closed.{here_at, here_from}
@@ -45,7 +45,7 @@ use Rattle.server_laws.proofs.Ids.{AllKept, HasAccepted, KeptSince, all_same, ha
 use Rattle.server_laws.proofs.KeptTables.{Good, good_closed, good_deals, parts_kept, whole_kept}
 use Rattle.server_laws.proofs.Opening.{OpenedAs, answer_tells, opened_answers, usable_found, usable_is}
 use Rattle.server_laws.proofs.Quiet.{IsQuietly, IsTicking, asides_quiet, carrying_append, carrying_more, is_empty, quiet_closed}
-use Rattle.server_laws.proofs.Rows.{until_later}
+use Rattle.server_laws.proofs.Rows.{at_changed, until_later}
 use Rattle.server_laws.proofs.Verdicts.{owned_to_client, owned_to_device}
 
 -- ---- a step begins
@@ -60,7 +60,7 @@ good_begun t event is = record {
 }
 
 pub begun_about : (t : Table) (event : Event) → IsWellKept t → IsAbout t (course_begun t event)
-begun_about t event is = record { queue = refl; rows = refl; settings = refl; asides = refl; staged = refl; good = good_begun t event is }
+begun_about t event is = record { queue = refl; rows = refl; settings = refl; asides = refl; staged = refl; sealed = λ n k. refl; good = good_begun t event is }
 
 pub here_begun : (t : Table) (event : Event) (n : ℕ) → client_here (course_begun t event).table n ≡ client_here t n
 unfolding client_here
@@ -120,16 +120,31 @@ dealt_brings : (t : Table) (event : Event) (n k id : ℕ) (inner : List ℕ) (c 
 dealt_brings t event n k id inner c accepts (GoesOn on) = Brings n k id inner accepts (owner_of t n inner c on) on
 dealt_brings t event n k id inner c accepts (IsReported note why queue does) = BringsNone queue (quiet_last (Report note ∷ []) c refl does)
 
-accepted_about : (t : Table) (event : Event) (d : FromWire) (n : ℕ) (x : Client) → IsWellKept t → client_here (course_begun t event).table n ≡ Some x →
+-- opening seals nothing
+opened_seals : (x : Client) (m : Moment) (datagram inner : List ℕ) (k : ℕ) → OpenedAs x.session m datagram inner →
+    sealed_in (slice_get (packets.data_came datagram m x.session).peer.sessions k) ≡ sealed_in (slice_get x.session.sessions k)
+opened_seals x m datagram inner k o =
+    let g : Session → Session = λ s. record s { received = recorded s.received o.id m } in
+    ap (λ (out : Outcome (Result (List ℕ) SessionFault)). sealed_in (slice_get out.peer.sessions k)) (opened_answers x.session m datagram inner o)
+    ∙ at_changed (λ (s : Option Session). sealed_in s) o.number g x.session.sessions k (λ s there e. refl)
+
+accepted_about : (t : Table) (event : Event) (d : FromWire) (n : ℕ) (x : Client) (inner : List ℕ) → IsWellKept t → client_here (course_begun t event).table n ≡ Some x →
+    OpenedAs x.session (record { 0 = moment_of t event }) d.bytes inner →
     IsAbout t (accepted d n x (course_begun t event) (packets.data_came d.bytes (record { 0 = moment_of t event }) x.session).peer)
-accepted_about t event d n x is here = record {
-  queue = refl;
-  rows = refl;
-  settings = refl;
-  asides = refl;
-  staged = refl;
-  good = accepted_kept good_closed d n x (course_begun t event) here (good_begun t event is);
-}
+accepted_about t event d n x inner is here o =
+    let peer = (packets.data_came d.bytes (record { 0 = moment_of t event }) x.session).peer in
+    let f : Client → Client = with_opened (moment_of t event) peer (length d.bytes) in
+    record {
+      queue = refl;
+      rows = refl;
+      settings = refl;
+      asides = refl;
+      staged = refl;
+      sealed = λ i k. at_changed (sealed_by k) n f t.clients i
+          (λ y there e. opened_seals x (record { 0 = moment_of t event }) d.bytes inner k o
+          ∙ ap (λ (z : Client). sealed_in (slice_get z.session.sessions k)) (some_same (sym (here_at (course_begun t event).table n x here).there ∙ there)));
+      good = accepted_kept good_closed d n x (course_begun t event) here (good_begun t event is);
+    }
 
 refused_none : (t : Table) (event : Event) (d : FromWire) (n : ℕ) (x : Client) (fault : SessionFault) →
     BringsOne t event (refused d n x (course_begun t event) fault)
@@ -167,7 +182,7 @@ module _ (t : Table) (event : Event) (kept : IsWellKept t) (goes : is_over t ≡
   as_brings d f n x (Ok inner) comes is_inner here peer is =
       let o = answer_tells x.session (record { 0 = moment_of t event }) d.bytes inner is in
       let e = accepted d n x (course_begun t event) (packets.data_came d.bytes (record { 0 = moment_of t event }) x.session).peer in
-      let about = moved_about n d.from x e (accepted_about t event d n x kept (here_begun t event n ∙ here)) in
+      let about = moved_about n d.from x e (accepted_about t event d n x inner kept (here_begun t event n ∙ here) o) in
       dealt_brings t event n o.number o.id inner (carried d.lacks n inner (moved n d.from x e))
       (record { is_taken = goes; from = d.from; datagram = d.bytes; comes = comes; accepted = accepted_as d f n x inner is_inner here peer o }) (carried_dealt d.lacks n inner (moved n d.from x e) about)
 
@@ -271,7 +286,7 @@ module _ (t : Table) (event : Event) (from : Addr) (bytes : List ℕ) (lacks : B
       subst (IsDealtWith t (Some n) inner) (sym (accepted_step n k id inner goes is a))
       (carried_dealt lacks n inner (before_carried n a.client)
       (moved_about n from a.client (accepted wire n a.client (course_begun t event) (answer a.client).peer)
-      (accepted_about t event wire n a.client kept (here_begun t event n ∙ a.client_here))))
+      (accepted_about t event wire n a.client inner kept (here_begun t event n ∙ a.client_here) (opened_from t (moment_of t event) bytes n k id inner sound kept a))))
 
   -- its id is accepted then
   pub accepted_has : (n k id : ℕ) (inner : List ℕ) → is_over t ≡ false → event.kind ≡ Datagram from bytes → IsAccepted t (moment_of t event) bytes n k id inner →

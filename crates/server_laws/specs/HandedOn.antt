@@ -1,5 +1,5 @@
 -- What becomes of an inner packet: it is handed on, or the step reports why it is not.
-use Rattle.std.specs.Prelude.{◌≡◌, ◌≢◌, ℕ, ◌≤◌, ◌-◌, ◌^◌, Bool, true, false, List, [], ◌∷◌, ◌++◌, length, Option, Some, None, slice_get}
+use Rattle.std.specs.Prelude.{◌≡◌, ◌≢◌, ℕ, ◌≤◌, ◌+◌, ◌-◌, ◌^◌, Bool, true, false, List, [], ◌∷◌, ◌++◌, length, Option, Some, None, slice_get}
 use Rattle.std.specs.List.{filter, list_all}
 use Rattle.vpn_base.specs.declared.address.Addr.{Addr}
 use Rattle.vpn_base.specs.declared.names.Cid.{Cid}
@@ -62,9 +62,20 @@ pub record DoesLast (last : List Action) (c : Course) : Type 0 where
 
 -- ---- where a packet goes
 
+-- the last packet id that was sealed under the keys of a session
+abbrev pub sealed_in : Option Session → ℕ
+sealed_in None = 0
+sealed_in (Some s) = s.sealed
+
+-- the same for a session of a client
+abbrev pub sealed_by : ℕ → Option Client → ℕ
+sealed_by number None = 0
+sealed_by number (Some x) = sealed_in (slice_get x.session.sessions number)
+
 -- The effect sends a packet to the client of this number, and to nobody else. As the step leaves the client, it is the data packet of this
--- inner packet under the client's newest usable keys, and its id is the last one that was sealed under them.
-pub record IsSealedTo (later : Table) (n : ℕ) (inner : List ℕ) (action : Action) : Type 0 where
+-- inner packet under the client's newest usable keys, and its id is the last one that was sealed under them, which is the next one behind that
+-- which the step found.
+pub record IsSealedTo (before later : Table) (n : ℕ) (inner : List ℕ) (action : Action) : Type 0 where
   pub client : Client
   pub client_here : client_here later n ≡ Some client
   pub number : ℕ
@@ -74,12 +85,13 @@ pub record IsSealedTo (later : Table) (n : ℕ) (inner : List ℕ) (action : Act
   pub keys : Keys
   pub has_keys : keys_of session.stage ≡ Some keys
   pub is_packet : action ≡ Wire client.address (sealed_under roles.Server keys (kid_of number) session.sealed inner)
+  pub is_next : session.sealed ≡ sealed_by number (slice_get before.clients n) + 1
 
 -- A packet of a client, or of the device, is handed on by a step that found this table: appended to the queue where the verdict names the
 -- device, and nothing is sent; or sealed in one datagram to the one client that the verdict names, and nothing is queued.
 pub data IsHandedOn (t : Table) (from : Option ℕ) (inner : List ℕ) (c : Course) : Type 0 where
   IsQueued : verdict_on t from inner ≡ verdicts.ToDevice → c.table.queue ≡ t.queue ++ inner ∷ [] → DoesLast [] c → IsHandedOn t from inner c
-  IsSealed : (target : ℕ) (action : Action) → verdict_on t from inner ≡ verdicts.ToClient (cid target) → IsSealedTo c.table target inner action →
+  IsSealed : (target : ℕ) (action : Action) → verdict_on t from inner ≡ verdicts.ToClient (cid target) → IsSealedTo t c.table target inner action →
       c.table.queue ≡ t.queue → DoesLast (action ∷ []) c → IsHandedOn t from inner c
 
 -- ---- why it goes nowhere
