@@ -1,9 +1,16 @@
 //! Laws about inner packets: from which datagram one comes, where it goes, and that none is lost.
 
-ghost use Rattle.std.specs.Prelude.{◌≡◌, ◌≢◌, ℕ, Bool, false, List, [], ◌∷◌, ◌++◌, Option, Some, None, Ok};
+ghost use Rattle.std.specs.Prelude.{◌≡◌, ◌≢◌, ◌↔◌, ℕ, Bool, false, List, [], ◌∷◌, ◌++◌, Option, Some, None, Ok};
 ghost use Rattle.std.specs.List.{AllByRecursion, IsAmong};
 ghost use Rattle.vpn_base.specs.declared.address.Addr.{Addr};
 ghost use Rattle.vpn_base.specs.declared.names.Cid.{Cid};
+ghost use Rattle.vpn_base.specs.declared.names.Role.TheVariants.{Client};
+ghost use Rattle.byte_texts.specs.Texts.{IsBytes};
+ghost use Rattle.gcm_seal.specs.AnyGcm.{key_of};
+ghost use Rattle.gcm_seal.specs.Gcm.{gcm};
+ghost use Rattle.sealed_packet.specs.SealedPacket.{Opens};
+ghost use Rattle.peer_table.specs.KeySessions.{Keys};
+ghost use Rattle.peer_table.specs.DataPackets.{cipher_key, half_of, implicit_bytes, opened_under};
 ghost use Rattle.vpn_links.specs.Steps.{LacksAll};
 ghost use Rattle.vpn_links.specs.declared.events.Event.{Event};
 ghost use Rattle.vpn_links.specs.declared.events.Kind.TheVariants.{Datagram, DeviceIn, Tick};
@@ -23,6 +30,8 @@ ghost use Rattle.server_laws.specs.Accepted.{Accepts};
 ghost use Rattle.server_laws.specs.HandedOn.{BringsOne, IsDealtWith, IsForward, IsQuiet, IsSealedPing, IsSentOn, carrying, verdict_on};
 ghost use Rattle.server_laws.specs.Waiting.{all_appended, all_given};
 ghost use Rattle.server_laws.specs.WellKept.{IsWellKept};
+
+use gcm_seal::AnyGcm;
 
 /// Every table that a run comes to is well kept: the rows are those of the established clients in the order in
 /// which they were established, each learned host is owned by the client that it was learned from, each client
@@ -107,3 +116,15 @@ pub fn other_events_hand_nothing_on()
         ((step lacks (after_all (table_begun settings key) before) event).table.queue ≡ (after_all (table_begun settings key) before).queue)
         × AllByRecursion IsSealedPing (carrying (step lacks (after_all (table_begun settings key) before) event).effects) }
 {}
+
+/// What a datagram opens to under keys is what its client sealed into it: under AES in Galois/Counter Mode with
+/// the key that they give, it opens to a packet id and an inner packet exactly where it is the data packet of
+/// these, for the peer id that stands in it.
+pub fn what_opens_is_its_packet(cipher: &AnyGcm)
+    ensures { (keys : Keys) (kid : ℕ) (datagram : List ℕ) (id : ℕ) (inner : List ℕ) →
+        cipher_key keys.cipher (half_of Client keys.block) ≡ key_of cipher.now → IsBytes datagram →
+        (opened_under Client keys kid datagram ≡ Some (id, inner))
+        ↔ (Opens (gcm (key_of cipher.now)) (implicit_bytes (half_of Client keys.block)) kid datagram id inner × IsBytes inner) }
+{
+    sealed_packet::opening_is_what_opens(cipher);
+}
