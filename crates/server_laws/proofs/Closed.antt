@@ -33,6 +33,7 @@ use Rattle.server_laws.proofs.Peers.{PeerExchanged, PeerKept, peer_same}
 -- what a change of a client keeps
 pub record ClientKept (y z : Client) : Type 0 where
   pub here : z.is_here ≡ y.is_here
+  pub peer_id : z.peer_id ≡ y.peer_id
   pub established : z.established ≡ y.established
   pub session : PeerKept y.session z.session
   pub file : (ccd : Ccd) → y.file ≡ Known ccd → z.file ≡ Known ccd
@@ -79,7 +80,7 @@ pub record IsClosed (P : Course → Type 0) : Type 0 where
       P (record c { table = record c.table { last_taken = went; counted_at = counted; bytes_in = into; bytes_out = outof; is_stopped = stopped } })
   pub acts : (n : ℕ) (x : Client) (o : Outcome Turn) (c : Course) → client_here c.table n ≡ Some x → PeerKept x.session o.peer → P c → P (acted n x.address o c)
   pub exchanges : (n : ℕ) (x : Client) (ccd : Ccd) (o : Outcome Turn) (c : Course) → client_here c.table n ≡ Some x → x.file ≡ Known ccd →
-      PeerExchanged x.session o.peer → P c → P (acted n x.address o c)
+      PeerExchanged x.peer_id x.session o.peer → P c → P (acted n x.address o c)
   pub alters : (n : ℕ) (f : Client → Client) (c : Course) → ((y : Client) → slice_get c.table.clients n ≡ Some y → ClientKept y (f y)) → P c →
       P (client_changed n f c)
   pub ends : (n : ℕ) (cause : Cause) (x : Client) (c : Course) → client_here c.table n ≡ Some x → P c → P (ended_as n cause c (Some x))

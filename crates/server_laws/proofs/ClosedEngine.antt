@@ -176,7 +176,7 @@ module _ {P : Course → Type 0} (closed : IsClosed P) where
       keeps (message_came n d m.0 m.1)
       (message_came_kept n d m.0 m.1
       (λ y at. subst (λ (z : Client). HaveKeys z.session.sessions) (some_same (sym there ∙ (here_at d.table n y at).there)) (peer.keys (next_keys x.session m next)))
-      (altered closed n x f c here (record { here = refl; established = refl; session = peer; file = λ file e. e }) is))
+      (altered closed n x f c here (record { here = refl; peer_id = refl; established = refl; session = peer; file = λ file e. e }) is))
 
   taken_by_kept : (behind : Course → Course) → ((c : Course) → P c → P (behind c)) → (n : ℕ) (c : Course) (x : Option Client) → client_here c.table n ≡ x → P c →
       P (messages_taken_by behind n c x)
@@ -245,7 +245,7 @@ module _ {P : Course → Type 0} (closed : IsClosed P) where
   file_is_kept : (n : ℕ) (x : Client) (file : FileState) (c : Course) → client_here c.table n ≡ Some x → is_known x.file ≡ false → P c → P (file_is n file c)
   file_is_kept n x file c here unknown is =
       altered closed n x (λ x. record x { file = file }) c here
-      (record { here = refl; established = refl; session = peer_same x.session; file = λ known e. absurd (not_known x unknown known e) }) is
+      (record { here = refl; peer_id = refl; established = refl; session = peer_same x.session; file = λ known e. absurd (not_known x unknown known e) }) is
 
   asked_for_kept : (n : ℕ) (x : Client) (name : List ℕ) (c : Course) → client_here c.table n ≡ Some x → is_known x.file ≡ false → P c → P (asked_for n name c)
   asked_for_kept n x name c here unknown is = closed.quiet (Ask (cid n) name ∷ []) (file_is n (Awaited name) c) refl (file_is_kept n x (Awaited name) c here unknown is)

@@ -66,7 +66,7 @@ module _ {P : Course → Type 0} (closed : IsClosed P) where
   -- ---- a control packet
 
   fresh_kept : (n now : ℕ) (c : Course) → P c → P (client_changed n (with_fresh now) c)
-  fresh_kept n now c is = closed.alters n (with_fresh now) c (λ y there. record { here = refl; established = refl; session = peer_same y.session; file = λ ccd e. e }) is
+  fresh_kept n now c is = closed.alters n (with_fresh now) c (λ y there. record { here = refl; peer_id = refl; established = refl; session = peer_same y.session; file = λ ccd e. e }) is
 
   answered_kept : (n : ℕ) (x : Client) (i : Incoming) (c : Course) (answer : Result Turn Refused) → P c → P (control_answered n x i c answer)
   answered_kept n x i c (Ok turn) is =
@@ -201,6 +201,7 @@ module _ {P : Course → Type 0} (closed : IsClosed P) where
       closed.other e.table.last_taken e.table.counted_at e.table.bytes_in e.table.bytes_out e.table.is_stopped (client_changed n f c)
       (altered closed n x f c here (record {
         here = refl;
+        peer_id = refl;
         established = refl;
         session = data_kept d.bytes (record { 0 = c.table.moment }) x.session (peer_same x.session);
         file = λ ccd e. e;
@@ -211,7 +212,7 @@ module _ {P : Course → Type 0} (closed : IsClosed P) where
   moved_if_kept n from c true is =
       let f : Client → Client = λ x. record x { address = from } in
       reported_kept closed (notes.Moved (cid n) from) (client_changed n f c)
-      (closed.alters n f c (λ y there. record { here = refl; established = refl; session = peer_same y.session; file = λ ccd e. e }) is)
+      (closed.alters n f c (λ y there. record { here = refl; peer_id = refl; established = refl; session = peer_same y.session; file = λ ccd e. e }) is)
 
   pub moved_kept : (n : ℕ) (from : Addr) (x : Client) (c : Course) → P c → P (moved n from x c)
   moved_kept n from x c is = moved_if_kept n from c (not (is_address x.address from) && not (is_taken c.table n from x.session.remote)) is

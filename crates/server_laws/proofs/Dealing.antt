@@ -34,7 +34,7 @@ use Rattle.server_table.specs.Establishing.{networks_of}
 use Rattle.server_table.specs.Sound.{IsEstablishedAt}
 use Rattle.server_table.specs.Step.{device_came, device_passed}
 use Rattle.server_laws.specs.HandedOn.{DoesLast, GoesOn, IsDealtWith, IsHandedOn, IsKeySpent, IsQueued, IsReason, IsReported, IsSealed, IsSealedTo, IsSpentFor, carrying, is_aside, is_carrying, sealed_by, sealed_in, verdict_on}
-use Rattle.server_laws.specs.WellKept.{AreThoseEstablished, HaveKeys, rows_at, rows_for, rows_with}
+use Rattle.server_laws.specs.WellKept.{AreNamed, AreThoseEstablished, HaveKeys, rows_at, rows_for, rows_with}
 use Rattle.server_laws.proofs.Places.{get_changed, none_some, some_same}
 use Rattle.server_laws.proofs.Closed.{DealsWith, IsClosed, here_at, here_from}
 use Rattle.server_laws.proofs.ClosedSteps.{learned_kept, moved_kept}
@@ -243,9 +243,9 @@ data GoesTo (n : ℕ) (inner : List ℕ) (c d : Course) : Type 0 where
   Spent : IsKeySpent d.table n → d.effects ≡ c.effects ++ Report (notes.KeySpent (cid n)) ∷ [] → d.staged ≡ c.staged → d.table.queue ≡ c.table.queue → GoesTo n inner c d
 
 goes_by : (n : ℕ) (inner : List ℕ) (c : Course) (y : Client) (s : Sealer y.session) (b : Bool) → client_here c.table n ≡ Some y → y.session.role ≡ roles.Server →
-    packets.ids_are_spent s.session ≡ b →
+    AreNamed y.peer_id y.session.sessions → packets.ids_are_spent s.session ≡ b →
     GoesTo n inner c (sealed_with n y c (packets.sealed_by y.session inner s.number s.session (Some s.keys) b))
-goes_by n inner c y s true here role spent =
+goes_by n inner c y s true here role names spent =
     Spent (record {
       client = y;
       client_here = here;
@@ -255,7 +255,7 @@ goes_by n inner c y s true here role spent =
       session_there = s.there;
       is_spent = eqb-true s.session.sealed (2 ^ 32 - 1) spent;
     }) refl refl refl
-goes_by n inner c y s false here role spent =
+goes_by n inner c y s false here role names spent =
     let g : Session → Session = λ s. record s { sealed = s.sealed + 1 } in
     let peer = packets.with_sealed s.number y.session in
     let datagram = packets.sealed_under y.session.role s.keys (kid_of s.number) (s.session.sealed + 1) inner in
@@ -271,18 +271,19 @@ goes_by n inner c y s false here role spent =
       session_there = get_changed s.number g y.session.sessions s.session s.there;
       keys = s.keys;
       has_keys = s.has;
+      names = names s.number s.session s.keys s.there s.has;
       is_packet = ap (λ (role : Role). Wire y.address (packets.sealed_under role s.keys (kid_of s.number) (s.session.sealed + 1) inner)) role;
       is_next = ap (λ (id : ℕ). id + 1) (sym (ap (sealed_by s.number) at.there ∙ ap (λ (o : Option Session). sealed_in o) s.there));
     }) refl refl refl
 
 goes_here : (n : ℕ) (inner : List ℕ) (c : Course) (y : Option Client) → client_here c.table n ≡ y → is_some y ≡ true →
-    ((x : Client) → y ≡ Some x → (x.session.role ≡ roles.Server) × HaveKeys x.session.sessions) → GoesTo n inner c (sealed_for n inner c y)
+    ((x : Client) → y ≡ Some x → (x.session.role ≡ roles.Server) × AreNamed x.peer_id x.session.sessions × HaveKeys x.session.sessions) → GoesTo n inner c (sealed_for n inner c y)
 goes_here n inner c None here some is = absurd (false≢true some)
 goes_here n inner c (Some y) here some is =
     let k = is y refl in
-    let s = sealer y.session k.1 in
+    let s = sealer y.session k.2 in
     subst (λ (o : Outcome (Result (List ℕ) sending.Spent)). GoesTo n inner c (sealed_with n y c o)) (sym (sealed_answers y.session inner s))
-    (goes_by n inner c y s (packets.ids_are_spent s.session) here k.0 refl)
+    (goes_by n inner c y s (packets.ids_are_spent s.session) here k.0 k.1 refl)
 
 goes_to : (n : ℕ) (inner : List ℕ) (c : Course) → Good c → IsEstablishedAt c.table.clients n → GoesTo n inner c (sealed_to n inner c)
 unfolding sealed_to
@@ -292,7 +293,7 @@ goes_to n inner c good e =
     (λ x is. let there = (here_at c.table n x is).there in
     let same : e.client ≡ x = some_same (sym e.there ∙ there) in
     let k = good.clients n x there in
-    (k.role, k.established (subst (λ (y : Client). is_some y.established ≡ true) same e.established)))
+    (k.role, k.named, k.established (subst (λ (y : Client). is_some y.established ≡ true) same e.established)))
 
 -- the client that the verdict names owns the destination
 pub target_owns : (t : Table) (from : Option ℕ) (inner : List ℕ) (target : Cid) → verdict_on t from inner ≡ ToClient target → owner t.routes.rows (destination inner) ≡ Some target
@@ -319,6 +320,7 @@ since_table t c d n inner action is sealed = record {
   session_there = sealed.session_there;
   keys = sealed.keys;
   has_keys = sealed.has_keys;
+  names = sealed.names;
   is_packet = sealed.is_packet;
   is_next = sealed.is_next ∙ ap (λ (id : ℕ). id + 1) (is.sealed n sealed.number);
 }

@@ -32,7 +32,7 @@ module _ {P : Course → Type 0} (closed : IsClosed P) where
   sent_kept n x peer datagram c here kept is =
       let f : Client → Client = with_sent c.table.moment peer (length datagram) in
       closed.other c.table.last_taken c.table.counted_at c.table.bytes_in (counted c.table.bytes_out (length datagram)) c.table.is_stopped (client_changed n f c)
-      (altered closed n x f c here (record { here = refl; established = refl; session = kept; file = λ ccd e. e }) is)
+      (altered closed n x f c here (record { here = refl; peer_id = refl; established = refl; session = kept; file = λ ccd e. e }) is)
 
   sealed_as_kept : ((to : Addr) (bytes : List ℕ) (c : Course) → P c → P (did (Wire to bytes) c)) → (n : ℕ) (x : Client) (peer : Peer) (r : Result (List ℕ) Spent) (c : Course) →
       client_here c.table n ≡ Some x → PeerKept x.session peer → P c → P (sealed_as n x c peer r)

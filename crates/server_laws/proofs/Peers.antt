@@ -1,5 +1,5 @@
 -- What each call of a client's session keeps of its key sessions: every id that was accepted, and the keys.
-use Rattle.std.proofs.Common.{◌≡◌, ℕ, zero, suc, ◌+◌, ◌==◌, Bool, true, false, List, [], ◌∷◌, ◌++◌, length, map, Option, Some, None, refl, sym, ap, ◌∙◌, subst, inl, inr, Result, Ok, Err}
+use Rattle.std.proofs.Common.{◌≡◌, ℕ, zero, suc, ◌+◌, ◌==◌, Bool, true, false, List, [], ◌∷◌, ◌++◌, length, map, Option, Some, None, is_some, refl, sym, ap, ◌∙◌, subst, inl, inr, Result, Ok, Err}
 use Rattle.std.specs.Prelude.{◌⊎◌, ◌||◌, slice_get, if◌then◌else◌}
 use Rattle.std.specs.List.{list_any}
 use Rattle.std.specs.Str.{bytes_eq}
@@ -13,6 +13,7 @@ use Rattle.vpn_base.specs.declared.names.Freshness.TheVariants.{Fresh, Zero, Old
 use Rattle.vpn_base.specs.declared.names.Moment.{Moment}
 use Rattle.vpn_base.specs.declared.names.Policy.{Policy}
 use Rattle.vpn_base.specs.declared.names.Role.{Role}
+use Rattle.vpn_base.specs.declared.names.Timers.{Timers}
 use Rattle.vpn_base.specs.FileName.{is_file_name}
 use Rattle.vpn_links.specs.declared.events.Kind.{Kind}
 use Rattle.vpn_links.specs.declared.events.Kind.TheVariants.{Datagram, EngineText, EnginePlain, EngineUp, EngineDown, DeviceIn, DeviceReady, File, Line, Tick, Halt}
@@ -31,12 +32,12 @@ use Rattle.peer_table.specs.KeySessions.{Keyed, Keys, Named, Opening, Session, S
 use Rattle.peer_table.specs.Peer.{Opens, Outcome, Peer, answered, gone_on, other, ready_sent, ready_sent_in, remote_of, with_link}
 use Rattle.peer_table.specs.ControlPackets.{Incoming, begins_next, begun_by, control_came, judged, kid_in, most_in_order, next_session, placed, sender, taken_by, with_next}
 use Rattle.peer_table.specs.EngineAnswers.{answer_in, answer_on, conn_in, engine_came, judged_at, kept_name, message_of, name_at, name_came, name_given, name_in, name_judged, plain_came, prepared_message, session_on, text_came, text_said, with_named}
-use Rattle.peer_table.specs.Exchange.{after_message, after_message_in, at_most_two, chosen, exchanged, exchanged_from, exchanged_with, is_open_keyed, message_read, oldest_of, server_source, session_closed, waiting_in}
+use Rattle.peer_table.specs.Exchange.{after_message, after_message_in, at_most_two, block_of, chosen, exchanged, exchanged_from, exchanged_with, is_open_keyed, message_read, oldest_of, server_source, session_closed, waiting_in}
 use Rattle.peer_table.specs.DataPackets as packets
 use Rattle.peer_table.specs.DataPackets.{data_came, ids_are_spent, opened_as, opened_by, opened_in, opened_judged, opened_under, sealed_by, sealed_in, sealed_to}
 use Rattle.peer_table.specs.Time.{Ticking, all_closed, gone_by, is_late, renewed, renews, resent, resent_in, retired, staying, ticked, ticked_idle, ticked_late}
 use Rattle.server_laws.specs.WellKept.{HaveKeys}
-use Rattle.server_laws.proofs.Places.{get_appended, none_some, some_same, went_changed}
+use Rattle.server_laws.proofs.Places.{WasChanged, get_appended, got_appended, got_changed, none_some, some_same, went_changed}
 
 -- ---- one of two tests holds
 
@@ -128,47 +129,112 @@ closed_kept (x ∷ later) zero s there =
     record { session = closed s; there = ap (λ (y : Session). Some (closed y)) (some_same there); ids = λ id is. is }
 closed_kept (x ∷ later) (suc k) s there = let w = closed_kept later k s there in record { session = w.session; there = w.there; ids = w.ids }
 
+-- ---- whose keys they are
+
+-- the session of this number had these keys
+pub record HadKeys (sessions : List Session) (k : ℕ) (keys : Keys) : Type 0 where
+  pub session : Session
+  pub there : slice_get sessions k ≡ Some session
+  pub has : keys_of session.stage ≡ Some keys
+
+-- keys come from nowhere else
+abbrev pub KeysFrom : List Session → List Session → Type 0
+KeysFrom sessions later = (k : ℕ) (s : Session) (keys : Keys) → slice_get later k ≡ Some s → keys_of s.stage ≡ Some keys → HadKeys sessions k keys
+
+from_same : (sessions : List Session) → KeysFrom sessions sessions
+from_same sessions k s keys there has = record { session = s; there = there; has = has }
+
+from_then : (sessions between later : List Session) → KeysFrom sessions between → KeysFrom between later → KeysFrom sessions later
+from_then sessions between later first second k s keys there has = let b = second k s keys there has in first k b.session keys b.there b.has
+
+had_changed : (n : ℕ) (g : Session → Session) (later : List Session) → ((s : Session) → slice_get later n ≡ Some s → keys_of (g s).stage ≡ keys_of s.stage) →
+    KeysFrom later (changed_at n g later)
+had_changed n g later same k s keys there has = go (got_changed n k g later s there)
+  where
+    go : WasChanged n k g later s ⊎ (slice_get later k ≡ Some s) → HadKeys later k keys
+    go (inl w) = record {
+      session = w.item;
+      there = w.there;
+      has = sym (same w.item (subst (λ (i : ℕ). slice_get later i ≡ Some w.item) w.place w.there)) ∙ ap (λ (x : Session). keys_of x.stage) (sym w.changed) ∙ has;
+    }
+    go (inr e) = record { session = s; there = e; has = has }
+
+had_appended : (later : List Session) (x : Session) → keys_of x.stage ≡ None → KeysFrom later (later ++ x ∷ [])
+had_appended later x none k s keys there has = go (got_appended later x k s there)
+  where
+    go : ((k ≡ length later) × (s ≡ x)) ⊎ (slice_get later k ≡ Some s) → HadKeys later k keys
+    go (inl w) = absurd (none_some (sym none ∙ ap (λ (y : Session). keys_of y.stage) (sym w.1) ∙ has))
+    go (inr e) = record { session = s; there = e; has = has }
+
+had_closed : (later : List Session) → KeysFrom later (map closed later)
+had_closed [] k s keys there has = absurd (none_some there)
+had_closed (x ∷ later) zero s keys there has = record { session = x; there = refl; has = ap (λ (y : Session). keys_of y.stage) (some_same there) ∙ has }
+had_closed (x ∷ later) (suc k) s keys there has = let h = had_closed later k s keys there has in record { session = h.session; there = h.there; has = h.has }
+
 -- ---- what a call keeps
 
+-- keys name this peer id, or were there
+abbrev pub NamedOrFrom : ℕ → List Session → List Session → Type 0
+NamedOrFrom peer_id sessions later =
+    (k : ℕ) (s : Session) (keys : Keys) → slice_get later k ≡ Some s → keys_of s.stage ≡ Some keys → (keys.peer_id ≡ peer_id) ⊎ HadKeys sessions k keys
+
 -- what all calls but the key exchange keep: the role, whether it asked, the ids, and the keys, of which no session gets any
-pub record PeerKeptParts (p : Peer) (role : Role) (asks : Bool) (sessions : List Session) : Type 0 where
+pub record PeerKeptParts (p : Peer) (role : Role) (timers : Timers) (asks : Bool) (sessions : List Session) : Type 0 where
   pub role_same : role ≡ p.role
+  pub timers_same : timers ≡ p.timers
   pub asks_same : asks ≡ p.asks_push
   pub ids : AreKept p.sessions sessions
   pub keys : HaveKeys p.sessions → HaveKeys sessions
   pub no_keys : HaveKeys sessions → HaveKeys p.sessions
+  pub from : KeysFrom p.sessions sessions
 
 abbrev pub PeerKept : Peer → Peer → Type 0
-PeerKept p q = PeerKeptParts p q.role q.asks_push q.sessions
+PeerKept p q = PeerKeptParts p q.role q.timers q.asks_push q.sessions
 
--- what the key exchange keeps: a client that asks now has keys
-pub record PeerExchanged (p q : Peer) : Type 0 where
+-- what the key exchange keeps: a client that asks now has keys, and keys that it gets name this peer id
+pub record PeerExchanged (peer_id : ℕ) (p q : Peer) : Type 0 where
   pub role_same : q.role ≡ p.role
+  pub timers_same : q.timers ≡ p.timers
+  pub from : NamedOrFrom peer_id p.sessions q.sessions
   pub asks : q.asks_push ≡ true → (p.asks_push ≡ true) ⊎ HaveKeys q.sessions
   pub ids : AreKept p.sessions q.sessions
   pub keys : HaveKeys p.sessions → HaveKeys q.sessions
 
 pub peer_same : (p : Peer) → PeerKept p p
-peer_same p = record { role_same = refl; asks_same = refl; ids = kept_same p.sessions; keys = λ is. is; no_keys = λ is. is }
-
--- a change of a session that keeps its ids and its keys
-record Passes (g : Session → Session) (s : Session) : Type 0 where
-  ids : KeepsIds g s
-  keyed : has_keys (g s) ≡ has_keys s
-
-changed_peer : {p : Peer} {role : Role} {asks : Bool} (n : ℕ) (g : Session → Session) (sessions : List Session) →
-    ((s : Session) → slice_get sessions n ≡ Some s → has_keys (g s) ≡ has_keys s) → ((s : Session) → KeepsIds g s) →
-    PeerKeptParts p role asks sessions → PeerKeptParts p role asks (changed_at n g sessions)
-changed_peer {p = p} n g sessions keyed keeps is = record {
-  role_same = is.role_same;
-  asks_same = is.asks_same;
-  ids = changed_kept n g p.sessions sessions keeps is.ids;
-  keys = λ e. keys_forward n g sessions (λ s there k. keyed s there ∙ k) (is.keys e);
-  no_keys = λ e. is.no_keys (keys_back n g sessions (λ s there k. sym (keyed s there) ∙ k) e);
+peer_same p = record {
+  role_same = refl;
+  timers_same = refl;
+  asks_same = refl;
+  ids = kept_same p.sessions;
+  keys = λ is. is;
+  no_keys = λ is. is;
+  from = from_same p.sessions;
 }
 
-linked : {p : Peer} {role : Role} {asks : Bool} (n : ℕ) (l : Link) (sessions : List Session) → PeerKeptParts p role asks sessions →
-    PeerKeptParts p role asks (changed_at n (λ s. record s { link = l }) sessions)
+-- whether a stage has keys is told by the keys that it has
+keyed_by : (stage : Stage) → is_keyed stage ≡ is_some (keys_of stage)
+keyed_by Opening = refl
+keyed_by Named = refl
+keyed_by (Keyed keys) = refl
+
+keyed_same : (g : Session → Session) (s : Session) → keys_of (g s).stage ≡ keys_of s.stage → has_keys (g s) ≡ has_keys s
+keyed_same g s same = keyed_by (g s).stage ∙ ap (λ (k : Option Keys). is_some k) same ∙ sym (keyed_by s.stage)
+
+changed_peer : {p : Peer} {role : Role} {timers : Timers} {asks : Bool} (n : ℕ) (g : Session → Session) (sessions : List Session) →
+    ((s : Session) → slice_get sessions n ≡ Some s → keys_of (g s).stage ≡ keys_of s.stage) → ((s : Session) → KeepsIds g s) →
+    PeerKeptParts p role timers asks sessions → PeerKeptParts p role timers asks (changed_at n g sessions)
+changed_peer {p = p} n g sessions same keeps is = record {
+  role_same = is.role_same;
+  timers_same = is.timers_same;
+  asks_same = is.asks_same;
+  ids = changed_kept n g p.sessions sessions keeps is.ids;
+  keys = λ e. keys_forward n g sessions (λ s there k. keyed_same g s (same s there) ∙ k) (is.keys e);
+  no_keys = λ e. is.no_keys (keys_back n g sessions (λ s there k. sym (keyed_same g s (same s there)) ∙ k) e);
+  from = from_then p.sessions sessions (changed_at n g sessions) is.from (had_changed n g sessions same);
+}
+
+linked : {p : Peer} {role : Role} {timers : Timers} {asks : Bool} (n : ℕ) (l : Link) (sessions : List Session) → PeerKeptParts p role timers asks sessions →
+    PeerKeptParts p role timers asks (changed_at n (λ s. record s { link = l }) sessions)
 linked n l sessions is = changed_peer n (λ s. record s { link = l }) sessions (λ s there. refl) (λ s id e. e) is
 
 module _ {p : Peer} where
@@ -187,7 +253,9 @@ module _ {p : Peer} where
       let s = session_begun q.timers conn (length q.sessions) SoftReset now in
       record {
         role_same = is.role_same;
+        timers_same = is.timers_same;
         asks_same = is.asks_same;
+        from = from_then p.sessions q.sessions (q.sessions ++ s ∷ []) is.from (had_appended q.sessions s refl);
         ids = appended_kept p.sessions q.sessions s is.ids;
         keys = λ e. keys_appended q.sessions s (is.keys e);
         no_keys = λ e. is.no_keys (none_appended q.sessions s refl e);
@@ -231,7 +299,7 @@ module _ {p : Peer} where
   named_kept : (n : ℕ) (q : Peer) (s : Session) → slice_get q.sessions n ≡ Some s → s.stage ≡ Opening → PeerKept p q → PeerKept p (with_named n q)
   named_kept n q s here opening is =
       changed_peer n (λ s. record s { stage = Named }) q.sessions
-      (λ t there. sym (ap is_keyed (ap (λ (x : Session). x.stage) (some_same (sym there ∙ here)) ∙ opening))) (λ s id e. e) is
+      (λ t there. sym (ap keys_of (ap (λ (x : Session). x.stage) (some_same (sym there ∙ here)) ∙ opening))) (λ s id e. e) is
 
   same_name : (n : ℕ) (q : Peer) (b : Bool) → PeerKept p (with_named n q) → PeerKept p q →
       PeerKept p (if b then judged_at n false (with_named n q) else answered q (Over NameChanged)).peer
@@ -390,7 +458,9 @@ module _ {p : Peer} where
   pub all_closed_kept : (q : Peer) → PeerKept p q → PeerKept p (all_closed q)
   all_closed_kept q is = record {
     role_same = is.role_same;
+    timers_same = is.timers_same;
     asks_same = is.asks_same;
+    from = from_then p.sessions q.sessions (map closed q.sessions) is.from (had_closed q.sessions);
     ids = kept_then p.sessions q.sessions (map closed q.sessions) is.ids (closed_kept q.sessions);
     keys = λ e. keys_closed q.sessions ∙ is.keys e;
     no_keys = λ e. is.no_keys (sym (keys_closed q.sessions) ∙ e);
@@ -398,16 +468,21 @@ module _ {p : Peer} where
 
 -- ---- the key exchange
 
-exchanged_same : (p : Peer) → PeerExchanged p p
-exchanged_same p = record { role_same = refl; asks = λ e. inl e; ids = kept_same p.sessions; keys = λ e. e }
+exchanged_same : (peer_id : ℕ) (p : Peer) → PeerExchanged peer_id p p
+exchanged_same peer_id p = record { role_same = refl; timers_same = refl; from = λ k s keys there has. inr (from_same p.sessions k s keys there has); asks = λ e. inl e; ids = kept_same p.sessions; keys = λ e. e }
 
-closed_exchanged : (p : Peer) (n : Option ℕ) (c : Outcome Turn) → HaveKeys c.peer.sessions → c.peer.role ≡ p.role → AreKept p.sessions c.peer.sessions →
-    PeerExchanged p (session_closed n c).peer
-closed_exchanged p None c is role ids = record { role_same = role; asks = λ e. inr is; ids = ids; keys = λ e. is }
-closed_exchanged p (Some n) c is role ids =
+named_then : (peer_id : ℕ) (sessions between later : List Session) → NamedOrFrom peer_id sessions between → KeysFrom between later → NamedOrFrom peer_id sessions later
+named_then peer_id sessions between later first second k s keys there has = let b = second k s keys there has in first k b.session keys b.there b.has
+
+closed_exchanged : (peer_id : ℕ) (p : Peer) (n : Option ℕ) (c : Outcome Turn) → HaveKeys c.peer.sessions → c.peer.role ≡ p.role → c.peer.timers ≡ p.timers →
+    NamedOrFrom peer_id p.sessions c.peer.sessions → AreKept p.sessions c.peer.sessions → PeerExchanged peer_id p (session_closed n c).peer
+closed_exchanged peer_id p None c is role timers from ids = record { role_same = role; timers_same = timers; from = from; asks = λ e. inr is; ids = ids; keys = λ e. is }
+closed_exchanged peer_id p (Some n) c is role timers from ids =
     let have : HaveKeys (changed_at n closed c.peer.sessions) = keys_forward n closed c.peer.sessions (λ s there k. k) is in
     record {
       role_same = role;
+      timers_same = timers;
+      from = named_then peer_id p.sessions c.peer.sessions (changed_at n closed c.peer.sessions) from (had_changed n closed c.peer.sessions (λ s there. refl));
       asks = λ e. inr have;
       ids = changed_kept n closed p.sessions c.peer.sessions (λ s id e. e) ids;
       keys = λ e. have;
@@ -419,20 +494,34 @@ keys_given n g [] s there is = absurd (none_some there)
 keys_given zero g (x ∷ ss) s there is = or_left (has_keys (g x)) (list_any has_keys ss) (ap (λ (y : Session). has_keys (g y)) (some_same there) ∙ is)
 keys_given (suc n) g (x ∷ ss) s there is = or_right (has_keys x) (list_any has_keys (changed_at n g ss)) (keys_given n g ss s there is)
 
+-- a session gets these keys
+named_given : (n : ℕ) (g : Session → Session) (ss : List Session) (given : Keys) → ((s : Session) → keys_of (g s).stage ≡ Some given) →
+    NamedOrFrom given.peer_id ss (changed_at n g ss)
+named_given n g ss given gives k s keys there has = go (got_changed n k g ss s there)
+  where
+    go : WasChanged n k g ss s ⊎ (slice_get ss k ≡ Some s) → (keys.peer_id ≡ given.peer_id) ⊎ HadKeys ss k keys
+    go (inl w) =
+        let same : keys ≡ given = some_same (sym has ∙ ap (λ (x : Session). keys_of x.stage) w.changed ∙ gives w.item) in
+        inl (ap (λ (k : Keys). k.peer_id) same)
+    go (inr e) = inr (record { session = s; there = e; has = has })
+
 exchanged_with_kept : (peer_id : ℕ) (p : Peer) (own : Source) (m : Km2) (used : ℕ) (cipher : Option Cipher) (s : Session) → newest_session p.sessions ≡ Some s →
-    PeerExchanged p (exchanged_with peer_id p own m used cipher).peer
-exchanged_with_kept peer_id p own m used None s there = exchanged_same p
+    PeerExchanged peer_id p (exchanged_with peer_id p own m used cipher).peer
+exchanged_with_kept peer_id p own m used None s there = exchanged_same peer_id p
 exchanged_with_kept peer_id p own m used (Some cipher) s there =
-    closed_exchanged p _ _ (keys_given (newest p.sessions) _ p.sessions s there refl) refl
-    (changed_kept (newest p.sessions) _ p.sessions p.sessions (λ s id e. e) (kept_same p.sessions))
+    let given : Keys = record { block = block_of m.source own (remote_of p).0 p.envelope.own.0; cipher = cipher; peer_id = peer_id } in
+    let g : Session → Session = λ s. record s { stage = Keyed given; read = used } in
+    closed_exchanged peer_id p _ _ (keys_given (newest p.sessions) g p.sessions s there refl) refl refl
+    (named_given (newest p.sessions) g p.sessions given (λ s. refl))
+    (changed_kept (newest p.sessions) g p.sessions p.sessions (λ s id e. e) (kept_same p.sessions))
 
 exchanged_from_kept : (policy : Policy) (peer_id : ℕ) (p : Peer) (own : Source) (m : Option (Km2 × ℕ)) (s : Option Session) → newest_session p.sessions ≡ s → message_of p s ≡ m →
-    PeerExchanged p (exchanged_from policy peer_id p own m).peer
-exchanged_from_kept policy peer_id p own None s there is = exchanged_same p
+    PeerExchanged peer_id p (exchanged_from policy peer_id p own m).peer
+exchanged_from_kept policy peer_id p own None s there is = exchanged_same peer_id p
 exchanged_from_kept policy peer_id p own (Some m) None there is = absurd (none_some is)
 exchanged_from_kept policy peer_id p own (Some m) (Some s) there is = exchanged_with_kept peer_id p own m.0 m.1 (chosen policy m.0.info) s there
 
-pub exchange_kept : (policy : Policy) (peer_id : ℕ) (draw : Draw) (p : Peer) → PeerExchanged p (exchanged policy peer_id draw p).peer
+pub exchange_kept : (policy : Policy) (peer_id : ℕ) (draw : Draw) (p : Peer) → PeerExchanged peer_id p (exchanged policy peer_id draw p).peer
 unfolding exchanged prepared_message
 exchange_kept policy peer_id draw p =
     exchanged_from_kept policy peer_id p (server_source draw) (message_of p (newest_session p.sessions)) (newest_session p.sessions) refl refl

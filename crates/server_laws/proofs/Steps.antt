@@ -8,6 +8,7 @@ use Rattle.vpn_base.specs.declared.names.Malformed.{Malformed}
 use Rattle.vpn_base.specs.declared.names.Moment.{Moment}
 use Rattle.vpn_base.specs.declared.names.Role.{Role}
 use Rattle.vpn_base.specs.declared.names.Role.TheVariants as roles
+use Rattle.vpn_base.specs.declared.names.Timers.{Timers}
 use Rattle.vpn_links.specs.Actions.{Action, Device, Report, Wire, on_wire}
 use Rattle.vpn_links.specs.declared.events.Event.{Event}
 use Rattle.vpn_links.specs.declared.events.Kind.{Kind}
@@ -22,7 +23,7 @@ use Rattle.peer_table.specs.declared.outcomes.SessionFault.{SessionFault}
 use Rattle.peer_table.specs.declared.outcomes.SessionFault.TheVariants as faults
 use Rattle.peer_table.specs.Places.{changed_at, first_place}
 use Rattle.packet_ids.specs.Freshness.{recorded}
-use Rattle.peer_table.specs.KeySessions.{Session, kid_of}
+use Rattle.peer_table.specs.KeySessions.{Session, kid_of, usable}
 use Rattle.peer_table.specs.Peer.{Outcome, Peer, other}
 use Rattle.peer_table.specs.DataPackets as packets
 use Rattle.server_table.specs.Table.{Client, Table}
@@ -33,7 +34,7 @@ use Rattle.server_table.specs.DataDatagrams.{FromWire, accepted, carried, data_a
 use Rattle.server_table.specs.InnerPackets.{dequeued, device_ready}
 use Rattle.server_table.specs.Sound.{AtMostOne, IsSound}
 use Rattle.server_table.specs.Step.{came, course_begun, course_of, datagram_as, device_came, is_over, moment_of, step, step_if}
-use Rattle.server_laws.specs.Accepted.{Accepts, IsAccepted}
+use Rattle.server_laws.specs.Accepted.{Accepts, IsAccepted, IsOneOf}
 use Rattle.server_laws.specs.HandedOn.{Brings, BringsNone, BringsOne, DoesLast, GoesOn, IsDealtWith, IsHandedOn, IsQueued, IsQuiet, IsReported, IsSealed, carrying, sealed_by, sealed_in}
 use Rattle.server_laws.specs.WellKept.{IsWellKept}
 use Rattle.server_laws.proofs.Places.{first_is, get_changed, none_passes, none_some, some_same}
@@ -158,7 +159,8 @@ module _ (t : Table) (event : Event) (kept : IsWellKept t) (goes : is_over t ≡
       (o : OpenedAs x.session (record { 0 = moment_of t event }) d.bytes inner) → IsAccepted t (moment_of t event) d.bytes n o.number o.id inner
   accepted_as d f n x inner is_inner here peer o =
       let u = usable_is x.session.timers (moment_of t event) x.session.sessions (packets.data_kid d.bytes) o.number o.found in
-      let role = (kept.clients n x (here_at t n x here).there).role in
+      let client = kept.clients n x (here_at t n x here).there in
+      let role = client.role in
       record {
         form = f;
         is_data = is_inner;
@@ -167,7 +169,7 @@ module _ (t : Table) (event : Event) (kept : IsWellKept t) (goes : is_over t ≡
         peer_id = peer;
         session = o.session;
         session_there = o.there;
-        is_usable = u.0;
+        is_usable = subst (λ (timers : Timers). IsOneOf (usable timers (moment_of t event) x.session.sessions) o.number) client.timers u.0;
         key_id = u.1;
         keys = o.keys;
         has_keys = o.has;
@@ -237,11 +239,13 @@ opened_from : (t : Table) (m : ℕ) (bytes : List ℕ) (n k id : ℕ) (inner : L
     OpenedAs a.client.session (record { 0 = m }) bytes inner
 opened_from t m bytes n k id inner sound kept a =
     let there = (here_at t n a.client a.client_here).there in
-    let role = (kept.clients n a.client there).role in
+    let client = kept.clients n a.client there in
+    let role = client.role in
+    let one = subst (λ (timers : Timers). IsOneOf (usable timers m a.client.session.sessions) k) (sym client.timers) a.is_usable in
     record {
       number = k;
       session = a.session;
-      found = usable_found a.client.session.timers m a.client.session.sessions (packets.data_kid bytes) k (sound.orderly n a.client there) a.is_usable a.key_id;
+      found = usable_found a.client.session.timers m a.client.session.sessions (packets.data_kid bytes) k (sound.orderly n a.client there) one a.key_id;
       there = a.session_there;
       keys = a.keys;
       has = a.has_keys;

@@ -30,7 +30,7 @@ pub record IsAccepted (t : Table) (moment : ℕ) (datagram : List ℕ) (n k id :
   pub peer_id : client.peer_id ≡ form.peer
   pub session : Session
   pub session_there : slice_get client.session.sessions k ≡ Some session
-  pub is_usable : IsOneOf (usable client.session.timers moment client.session.sessions) k
+  pub is_usable : IsOneOf (usable t.settings.timers moment client.session.sessions) k
   pub key_id : kid_of k ≡ data_kid datagram
   pub keys : Keys
   pub has_keys : keys_of session.stage ≡ Some keys

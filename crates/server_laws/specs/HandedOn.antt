@@ -73,7 +73,7 @@ sealed_by number None = 0
 sealed_by number (Some x) = sealed_in (slice_get x.session.sessions number)
 
 -- The effect sends a packet to the client of this number, and to nobody else. As the step leaves the client, it is the data packet of this
--- inner packet under the client's newest usable keys, and its id is the last one that was sealed under them, which is the next one behind that
+-- inner packet under the client's newest usable keys, which name its peer id, and its id is the last one that was sealed under them, which is the next one behind that
 -- which the step found.
 pub record IsSealedTo (before later : Table) (n : ℕ) (inner : List ℕ) (action : Action) : Type 0 where
   pub client : Client
@@ -84,6 +84,7 @@ pub record IsSealedTo (before later : Table) (n : ℕ) (inner : List ℕ) (actio
   pub session_there : slice_get client.session.sessions number ≡ Some session
   pub keys : Keys
   pub has_keys : keys_of session.stage ≡ Some keys
+  pub names : keys.peer_id ≡ client.peer_id
   pub is_packet : action ≡ Wire client.address (sealed_under roles.Server keys (kid_of number) session.sealed inner)
   pub is_next : session.sealed ≡ sealed_by number (slice_get before.clients n) + 1
 

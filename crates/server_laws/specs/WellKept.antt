@@ -5,7 +5,8 @@ use Rattle.ccd_files.specs.declared.client_file.Ccd.{Ccd}
 use Rattle.vpn_base.specs.declared.names.Role.TheVariants.{Server}
 use Rattle.route_table.specs.Owner.{Row, owner}
 use Rattle.route_table.specs.Learned.{Host, rows_of}
-use Rattle.peer_table.specs.KeySessions.{Session, has_keys}
+use Rattle.ovpn_config.specs.declared.settings.Settings.{Settings}
+use Rattle.peer_table.specs.KeySessions.{Keys, Session, has_keys, keys_of}
 use Rattle.server_table.specs.Table.{Client, Established, FileState, Known, Table}
 use Rattle.server_table.specs.Lookups.{cid}
 use Rattle.server_table.specs.Establishing.{networks_of}
@@ -78,9 +79,17 @@ IsKnown _ = ⊥
 abbrev pub HaveKeys : List Session → Type 0
 HaveKeys sessions = list_any has_keys sessions ≡ true
 
--- This end is its server. A client that asked to be established, or that is, has keys; and one that has keys has its file.
-pub record IsClientKept (x : Client) : Type 0 where
+-- what is sealed under the keys of these sessions carries this peer id
+abbrev pub AreNamed : ℕ → List Session → Type 0
+AreNamed peer_id sessions =
+    (k : ℕ) (s : Session) (keys : Keys) → slice_get sessions k ≡ Some s → keys_of s.stage ≡ Some keys → keys.peer_id ≡ peer_id
+
+-- This end is its server, with the timers of these settings, and its keys name its peer id. A client that asked to be established, or that
+-- is, has keys; and one that has keys has its file.
+pub record IsClientKept (settings : Settings) (x : Client) : Type 0 where
   pub role : x.session.role ≡ Server
+  pub timers : x.session.timers ≡ settings.timers
+  pub named : AreNamed x.peer_id x.session.sessions
   pub asked : x.session.asks_push ≡ true → HaveKeys x.session.sessions
   pub established : is_some x.established ≡ true → HaveKeys x.session.sessions
   pub known : HaveKeys x.session.sessions → IsKnown x.file
@@ -88,10 +97,10 @@ pub record IsClientKept (x : Client) : Type 0 where
 -- ---- the table
 
 -- The rows are those of the established clients in order of establishing, each learned host is owned by the client that it was learned from,
--- established clients have keys, and no more packets wait for the device than may.
+-- established clients have keys that name them, and no more packets wait for the device than may.
 pub record IsWellKept (t : Table) : Type 0 where
   pub moment : t.moment ≤ 2 ^ 52
   pub rows : AreThoseEstablished t.clients t.moment t.routes.rows
   pub hosts : AreOfOwners t.routes.rows t.routes.learned
-  pub clients : (n : ℕ) (x : Client) → slice_get t.clients n ≡ Some x → IsClientKept x
+  pub clients : (n : ℕ) (x : Client) → slice_get t.clients n ≡ Some x → IsClientKept t.settings x
   pub queue : length t.queue ≤ most_queued
