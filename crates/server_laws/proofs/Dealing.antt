@@ -295,6 +295,13 @@ goes_to n inner c good e =
     let k = good.clients n x there in
     (k.role, k.named, k.established (subst (λ (y : Client). is_some y.established ≡ true) same e.established)))
 
+-- a client's packet always has a route, and one of the device does not go back to it
+pub always_routed : (t : Table) (n : ℕ) (inner : List ℕ) → verdict_on t (Some n) inner ≡ NoRoute → ⊥
+always_routed t n inner v = client_has_route t.routes.rows t.settings.net t.settings.between n inner v
+
+pub never_back : (t : Table) (inner : List ℕ) → verdict_on t None inner ≡ ToDevice → ⊥
+never_back t inner v = device_not_to_device t.routes.rows t.settings.net t.settings.between inner v
+
 -- the client that the verdict names owns the destination
 pub target_owns : (t : Table) (from : Option ℕ) (inner : List ℕ) (target : Cid) → verdict_on t from inner ≡ ToClient target → owner t.routes.rows (destination inner) ≡ Some target
 target_owns t None inner target v = target_of t.routes.rows t.settings.net t.settings.between None inner target v

@@ -30,8 +30,8 @@ use Rattle.server_table.specs.Step.{course_begun, course_of, is_over, moment_of,
 use Rattle.server_laws.specs.Accepted.{Accepts, IsAccepted}
 use Rattle.server_laws.specs.HandedOn.{DoesLast, GoesOn, IsDealtWith, IsForward, IsFull, IsKeySpent, IsOn, IsReason, IsReported, IsSentOn, IsSpent, IsSpentFor, verdict_on}
 use Rattle.server_laws.specs.WellKept.{IsWellKept}
-use Rattle.server_laws.proofs.Closed.{here_at}
-use Rattle.server_laws.proofs.Everything.{came_kept}
+use Rattle.server_laws.proofs.Closed.{DealsWith, IsClosed, here_at}
+use Rattle.server_laws.proofs.Everything.{came_kept, seals_all}
 use Rattle.server_laws.proofs.Ids.{AllKept, HasAccepted, KeptSince, all_same, has_one, has_still, since_closed, since_deals}
 use Rattle.server_laws.proofs.KeptTables.{Good, good_closed, good_deals, parts_kept, whole_kept}
 use Rattle.server_laws.proofs.Opening.{fresh_is_new}
@@ -74,6 +74,45 @@ after_kept t entry is = lacking_kept t entry.0 entry.1 is
 pub run_kept : (entries : List Entry) (t : Table) → IsWellKept t → IsWellKept (after_all t entries)
 run_kept [] t is = is
 run_kept (entry ∷ entries) t is = run_kept entries (after t entry) (after_kept t entry is)
+
+-- ---- settings stay
+
+abbrev HasSettings : Settings → Course → Type 0
+HasSettings settings c = c.table.settings ≡ settings
+
+settings_closed : (settings : Settings) → IsClosed (HasSettings settings)
+settings_closed settings = record {
+  quiet = λ actions c none is. is;
+  other = λ went counted into outof stopped c is. is;
+  acts = λ n x o c here peer is. is;
+  exchanges = λ n x ccd o c here known ex is. is;
+  alters = λ n f c keeps is. is;
+  ends = λ n cause x c here is. is;
+  establishes = λ n conn x l c here ready is. is;
+  admits = λ from draw c is. is;
+}
+
+settings_deals : (settings : Settings) → DealsWith (HasSettings settings)
+settings_deals settings = record {
+  seals = λ inner. seals_all (settings_closed settings) (λ to bytes c is. is) inner;
+  learns = λ n host c owned is. is;
+  queues = λ inner c few is. is;
+  dequeues = λ packet rest c same is. is;
+}
+
+step_settings : (lacks : Bool) (t : Table) (event : Event) (settings : Settings) → t.settings ≡ settings → (step lacks t event).table.settings ≡ settings
+step_settings lacks t event settings is =
+    by_over (HasSettings settings) lacks t event is
+    (λ goes. came_kept (settings_closed settings) (settings_deals settings) lacks event.draw event.kind (course_begun t event) is)
+
+lacking_settings : (t : Table) (event : Event) (lack : Lack) (settings : Settings) → t.settings ≡ settings → (after_lacking t event lack).settings ≡ settings
+lacking_settings t event LacksNothing settings is = step_settings false t event settings is
+lacking_settings t event LacksAll settings is = is
+lacking_settings t event LacksHost settings is = step_settings true t event settings is
+
+pub run_settings : (entries : List Entry) (t : Table) (settings : Settings) → t.settings ≡ settings → (after_all t entries).settings ≡ settings
+run_settings [] t settings is = is
+run_settings (entry ∷ entries) t settings is = run_settings entries (after t entry) settings (lacking_settings t entry.0 entry.1 settings is)
 
 -- ---- accepted ids stay
 

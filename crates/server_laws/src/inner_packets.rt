@@ -19,7 +19,7 @@ ghost use Rattle.opcode_codec.specs.Packet.{Inner, packet_of};
 ghost use Rattle.ovpn_config.specs.declared.settings.Settings.{Settings};
 ghost use Rattle.ip_packets.specs.Inner.{destination, source};
 ghost use Rattle.route_table.specs.Owner.{owner};
-ghost use Rattle.inner_verdict.specs.declared.Verdict.TheVariants.{BadSource, ToClient};
+ghost use Rattle.inner_verdict.specs.declared.Verdict.TheVariants.{BadSource, NoRoute, ToClient, ToDevice};
 ghost use Rattle.server_table.specs.Table.{Table, table_begun};
 ghost use Rattle.server_table.specs.Lookups.{cid};
 ghost use Rattle.server_table.specs.DataDatagrams.{ping};
@@ -40,6 +40,7 @@ pub fn tables_are_well_kept()
     ensures begins { (settings : Settings) (key : List ℕ) → IsWellKept (table_begun settings key) }
     ensures step { (lacks : Bool) (t : Table) (event : Event) → IsWellKept t → IsWellKept (step lacks t event).table }
     ensures run { (settings : Settings) (key : List ℕ) (entries : List Entry) → IsWellKept (after_all (table_begun settings key) entries) }
+    ensures settings { (settings : Settings) (key : List ℕ) (entries : List Entry) → (after_all (table_begun settings key) entries).settings ≡ settings }
 {}
 
 /// After any run, a datagram hands nothing on, or one packet: the one to which it opens under a usable key of
@@ -72,7 +73,7 @@ pub fn packets_wait_in_order()
 /// A data packet that opens fresh under a usable key of the client with its peer id is handed on, or one note
 /// says why not, and each note only where its cause holds. What is no ping and passes the verdict is handed on,
 /// or the client that it is for has used its last packet id, or the queue is full. A source that the client owns
-/// is never refused. And a data packet never lacks memory as a whole.
+/// is never refused, and a client's packet always has a route. And a data packet never lacks memory as a whole.
 pub fn no_packet_is_lost()
     ensures dealt { (settings : Settings) (key : List ℕ) (before : List Entry) (lacks : Bool) (event : Event) (n k id : ℕ) (inner : List ℕ) →
         Accepts (after_all (table_begun settings key) before) event n k id inner →
@@ -83,6 +84,7 @@ pub fn no_packet_is_lost()
         IsSentOn (after_all (table_begun settings key) before) n inner (step lacks (after_all (table_begun settings key) before) event) }
     ensures owned { (t : Table) (n : ℕ) (inner : List ℕ) (found : Option Cid) → owner t.routes.rows (source inner) ≡ Some (cid n) →
         verdict_on t (Some n) inner ≢ BadSource found }
+    ensures routed { (t : Table) (n : ℕ) (inner : List ℕ) → verdict_on t (Some n) inner ≢ NoRoute }
     ensures memory { (t : Table) (event : Event) (from : Addr) (datagram : List ℕ) (form : DataForm) → event.kind ≡ Datagram from datagram →
         packet_of datagram ≡ Ok (Inner form) → MayLack t event LacksAll → ⊥ }
 {
@@ -105,6 +107,7 @@ pub fn packets_of_the_device_go_to_owners()
         IsDealtWith (after_all (table_begun settings key) before) None inner (step lacks (after_all (table_begun settings key) before) event) }
     ensures routed { (t : Table) (from : Option ℕ) (inner : List ℕ) (target : Cid) → verdict_on t from inner ≡ ToClient target →
         owner t.routes.rows (destination inner) ≡ Some target }
+    ensures stays { (t : Table) (inner : List ℕ) → verdict_on t None inner ≢ ToDevice }
 {}
 
 /// No other event hands a packet on. An answer of the engine, a file, a line or the end leaves the queue, and no

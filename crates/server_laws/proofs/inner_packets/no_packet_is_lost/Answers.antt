@@ -4,6 +4,7 @@ use Rattle.server_table.specs.Step.{step}
 use Rattle.server_table.specs.Table.{table_begun}
 use Rattle.server_laws.proofs.Runs.{begun_kept, never_lacks, run_kept, sent_on}
 use Rattle.server_laws.proofs.Steps.{accepted_dealt}
+use Rattle.server_laws.proofs.Dealing.{always_routed}
 use Rattle.server_laws.proofs.Verdicts.{owner_is_good}
 
 pub returns-clause-dealt : goal.returns-clause-dealt
@@ -27,3 +28,6 @@ returns-clause-owned c = λ t n inner found owned is. owner_is_good t.routes.row
 
 pub returns-clause-memory : goal.returns-clause-memory
 returns-clause-memory c = never_lacks
+
+pub returns-clause-routed : goal.returns-clause-routed
+returns-clause-routed c = always_routed
