@@ -1,7 +1,6 @@
 -- What holds of every course of a step, if it holds where the step begins and each thing that a step does keeps it.
-use Rattle.std.proofs.Common.{◌≡◌, ℕ, suc, Bool, true, false, List, [], ◌∷◌, ◌++◌, length, Option, Some, None, refl, sym, ap, ◌∙◌, subst, nat_le}
+use Rattle.std.proofs.Common.{◌≡◌, ℕ, Bool, true, false, List, [], ◌∷◌, ◌++◌, length, Option, Some, None, refl, sym, ap, ◌∙◌, subst, nat_le}
 use Rattle.std.specs.Prelude.{◌⊎◌, slice_get, if◌then◌else◌}
-use Rattle.std.proofs.lemmas.Bool.{false≢true}
 use Rattle.vpn_base.specs.declared.address.Addr.{Addr}
 use Rattle.vpn_base.specs.declared.address.Ip4.{Ip4}
 use Rattle.vpn_base.specs.declared.names.Cause.{Cause}
@@ -14,9 +13,9 @@ use Rattle.route_table.specs.Owner.{owner}
 use Rattle.route_table.specs.Learned.{with_host}
 use Rattle.peer_table.specs.declared.outcomes.Turn.{Turn}
 use Rattle.peer_table.specs.declared.outcomes.Turn.TheVariants.{Going, Ignored, Named, Exchange, Over}
-use Rattle.peer_table.specs.Peer.{Outcome, Peer}
+use Rattle.peer_table.specs.Peer.{Outcome}
 use Rattle.peer_table.specs.DataPackets as packets
-use Rattle.server_table.specs.Table.{Client, Established, FileState, Known, Table}
+use Rattle.server_table.specs.Table.{Client, Known, Table}
 use Rattle.server_table.specs.Lookups.{cid, client_here, if_here}
 use Rattle.server_table.specs.Courses.{Course, acted, client_changed, did, did_all, reported}
 use Rattle.server_table.specs.Endings.{ended, ended_as, turned}
@@ -26,7 +25,7 @@ use Rattle.server_table.specs.ControlDatagrams.{client_begun, session_begun, wit
 use Rattle.server_laws.specs.HandedOn.{carrying}
 use Rattle.server_laws.specs.WellKept.{HaveKeys}
 use Rattle.server_laws.proofs.Places.{none_some, some_same}
-use Rattle.server_laws.proofs.Peers.{PeerExchanged, PeerKept, peer_same}
+use Rattle.server_laws.proofs.Peers.{PeerExchanged, PeerKept}
 
 -- ---- clients
 

@@ -1,13 +1,13 @@
 -- The engine and the files answer: establishing, exchange, messages.
-use Rattle.std.proofs.Common.{◌≡◌, ℕ, zero, suc, ◌&&◌, Bool, true, false, List, [], ◌∷◌, ◌++◌, map, filter, Option, Some, None, option_map, refl, sym, ap, ◌∙◌, subst, inl, inr, nat_lt, bytes_eq, is_some, is_none, Result, Ok, Err}
-use Rattle.std.specs.Prelude.{◌⊎◌, slice_get}
+use Rattle.std.proofs.Common.{◌≡◌, ℕ, zero, suc, ◌&&◌, Bool, true, false, List, [], ◌∷◌, Option, Some, None, option_map, refl, sym, ap, ◌∙◌, subst, inl, inr, nat_lt, bytes_eq, is_some, is_none, Result, Ok, Err}
+use Rattle.std.specs.Prelude.{slice_get}
 use Rattle.std.proofs.lemmas.Bool.{and_parts, false≢true}
 use Rattle.vpn_base.specs.declared.names.Cause.{Cause}
 use Rattle.vpn_base.specs.declared.names.Cause.TheVariants.{CcdFailed, CcdRefused, Disabled, EngineDown, NoCcd, PoolEmpty, Replaced, Unread}
 use Rattle.vpn_base.specs.declared.names.Cid.{Cid}
 use Rattle.vpn_base.specs.declared.names.Conn.{Conn}
 use Rattle.vpn_base.specs.declared.names.Draw.{Draw}
-use Rattle.vpn_links.specs.Actions.{Action, Ask, Report}
+use Rattle.vpn_links.specs.Actions.{Ask}
 use Rattle.vpn_links.specs.declared.events.Kind.{Kind}
 use Rattle.vpn_links.specs.declared.events.Kind.TheVariants.{EngineText}
 use Rattle.vpn_links.specs.declared.events.FileAnswer.{FileAnswer}
@@ -21,23 +21,22 @@ use Rattle.push_options.specs.Options.{options_of}
 use Rattle.push_options.specs.Parts.{reply_parts}
 use Rattle.peer_table.specs.declared.outcomes.Turn.{Turn}
 use Rattle.peer_table.specs.declared.outcomes.Turn.TheVariants.{Going, Ignored, Named, Exchange, Over}
-use Rattle.peer_table.specs.Places.{changed_at, first_place}
 use Rattle.peer_table.specs.KeySessions.{Session, has_keys, session_at}
 use Rattle.peer_table.specs.EngineAnswers.{engine_came}
-use Rattle.peer_table.specs.Exchange.{after_message, cipher_of, exchanged, first_conn, has_message, is_open_keyed, most_unread, next_message, unread, waiting_in, waiting_message}
+use Rattle.peer_table.specs.Exchange.{after_message, cipher_of, exchanged, first_conn, has_message, is_open_keyed, most_unread, next_message, waiting_in, waiting_message}
 use Rattle.peer_table.specs.Peer.{Outcome, Peer}
 use Rattle.server_table.specs.Table.{Awaited, Client, Established, FileState, Known, Table, Unasked}
-use Rattle.server_table.specs.Lookups.{by_connection, cid, client_here, established_named, if_here, is_established_as, is_name}
+use Rattle.server_table.specs.Lookups.{by_connection, cid, client_here, established_named, if_here, is_established_as}
 use Rattle.server_table.specs.Courses.{Course, acted, client_changed}
 use Rattle.server_table.specs.Endings.{ended, ended_as, gone, turned}
 use Rattle.server_table.specs.Engine.{answer_acted, answer_at, answer_for, asked, asked_by, asked_for, asked_in, asked_once, default_name, down_at, engine_acted, engine_answered, engine_is_down, file_accepted, file_at, file_came, file_for, file_given, file_is, file_known, file_lacking, file_missing, file_read, gone_on, unread_if, unread_judged, unread_limit, unread_of}
 use Rattle.server_table.specs.Establishing.{Leased, address_by, ccd_in, client_established, established_for, established_with, establishing, leased_to, name_in, plan_of, replaced, replaced_unless, reply, written}
-use Rattle.server_table.specs.Exchange.{asks_to_be_established, established_as_asked, established_if, established_on, exchange, exchange_acted, exchange_for, exchange_made, exchange_with, message_came, messages_taken, messages_taken_by, messages_taken_for, messages_taken_of, messages_taken_upto, most_messages, other_message, policy_with, push_request, requested, requested_as}
+use Rattle.server_table.specs.Exchange.{asks_to_be_established, established_as_asked, established_if, established_on, exchange, exchange_for, exchange_made, exchange_with, message_came, messages_taken, messages_taken_by, messages_taken_for, messages_taken_of, messages_taken_upto, most_messages, other_message, policy_with, push_request, requested, requested_as}
 use Rattle.server_laws.specs.HandedOn.{carrying}
 use Rattle.server_laws.specs.WellKept.{HaveKeys}
 use Rattle.server_laws.proofs.Places.{first_is, get_changed, get_other, none_some, some_same}
 use Rattle.server_laws.proofs.Peers.{PeerKept, engine_kept, exchange_kept, keys_at, message_kept, peer_same}
-use Rattle.server_laws.proofs.Closed.{ClientKept, IsClosed, IsReady, acted_kept, altered, ended_kept, here_at, here_from, reported_kept, turned_kept}
+use Rattle.server_laws.proofs.Closed.{IsClosed, IsReady, altered, ended_kept, here_at, reported_kept, turned_kept}
 
 -- ---- what is told
 

@@ -1,6 +1,6 @@
 -- Control packets, time, and the packets of clients and of the device.
-use Rattle.std.proofs.Common.{◌≡◌, ℕ, zero, suc, ◌==◌, ◌&&◌, not, Bool, true, false, List, [], ◌∷◌, ◌++◌, length, Option, Some, None, refl, sym, ap, ◌∙◌, nat_lt, nat_le, bytes_eq, codes, Result, Ok, Err}
-use Rattle.std.specs.Prelude.{slice_get, if◌then◌else◌}
+use Rattle.std.proofs.Common.{◌≡◌, ℕ, zero, suc, ◌==◌, ◌&&◌, not, Bool, true, false, List, [], ◌∷◌, ◌++◌, length, Option, Some, None, refl, nat_lt, nat_le, bytes_eq, codes, Result, Ok, Err}
+use Rattle.std.specs.Prelude.{if◌then◌else◌}
 use Rattle.vpn_base.specs.declared.address.Addr.{Addr}
 use Rattle.vpn_base.specs.declared.address.Ip4.{Ip4}
 use Rattle.vpn_base.specs.declared.names.Draw.{Draw}
@@ -25,21 +25,21 @@ use Rattle.peer_table.specs.declared.outcomes.SessionFault.TheVariants as faults
 use Rattle.peer_table.specs.declared.outcomes.Turn.{Turn}
 use Rattle.peer_table.specs.ControlPackets.{Incoming, control_came, sid_of}
 use Rattle.peer_table.specs.DataPackets as packets
-use Rattle.peer_table.specs.Peer.{Outcome, Peer}
+use Rattle.peer_table.specs.Peer.{Peer}
 use Rattle.peer_table.specs.Time.{ticked}
-use Rattle.server_table.specs.Table.{Client, Table}
-use Rattle.server_table.specs.Lookups.{by_peer_id, by_session, cid, client_here, if_here, is_address, is_full}
+use Rattle.server_table.specs.Table.{Client}
+use Rattle.server_table.specs.Lookups.{by_peer_id, by_session, cid, client_here, is_address, is_full}
 use Rattle.server_table.specs.Courses.{Course, acted, client_changed}
 use Rattle.server_table.specs.Endings.{turned}
 use Rattle.server_table.specs.ControlDatagrams.{ControlPacket, admitted, admitted_unless_full, begins_client, client_begun, client_wraps, control_answered, control_arrived, control_at, control_for, control_read, control_session, control_unwrapped, first_of, incoming, of_nobody, session_begun, to_client, with_admitted, with_fresh}
 use Rattle.server_table.specs.DataDatagrams.{FromWire, accepted, carried, carried_as, data_at, data_came, data_for, data_session, is_taken, moved, moved_if, opened_as, passed, ping, refused, went_to, with_opened}
 use Rattle.server_table.specs.InnerPackets.{dequeued, device_ready, is_host_of, learned, learned_unless_lacking, learned_where, most_queued, queued, queued_unless_full, sealed_for, sealed_to}
 use Rattle.server_table.specs.Step.{device_came, device_passed, halted, line_came, line_said}
-use Rattle.server_table.specs.Time.{client_ticked, clients_ticked, count_line_if, count_lines, counts_are_due, is_counted, ping_is_due, pinged, pinged_if, tick, tick_acted, tick_for, ticking_for, told_counts}
+use Rattle.server_table.specs.Time.{client_ticked, clients_ticked, count_line_if, count_lines, counts_are_due, is_counted, ping_is_due, pinged, pinged_if, tick, tick_for, ticking_for, told_counts}
 use Rattle.server_laws.specs.HandedOn.{carrying}
 use Rattle.server_laws.proofs.Places.{get_last}
-use Rattle.server_laws.proofs.Peers.{PeerKept, control_kept, data_kept, peer_same, tick_kept}
-use Rattle.server_laws.proofs.Closed.{ClientKept, DealsWith, IsClosed, SealsOf, acted_kept, altered, here_from, reported_kept, turned_kept}
+use Rattle.server_laws.proofs.Peers.{control_kept, data_kept, peer_same, tick_kept}
+use Rattle.server_laws.proofs.Closed.{DealsWith, IsClosed, SealsOf, acted_kept, altered, here_from, reported_kept, turned_kept}
 use Rattle.server_laws.proofs.Verdicts.{owned_to_client, owned_to_device}
 
 -- ---- byte counts

@@ -1,8 +1,8 @@
 -- What becomes of an inner packet.
-use Rattle.std.proofs.Common.{◌≡◌, ◌≤◌, ℕ, zero, suc, ◌+◌, ◌-◌, ◌^◌, ◌==◌, ◌&&◌, ◌||◌, not, cond, Bool, true, false, List, [], ◌∷◌, ◌++◌, length, map, filter, Option, Some, None, is_some, option_map, refl, sym, ap, ap₂, ◌∙◌, subst, inl, inr, arith, append-nil, append_assoc, nat_lt, nat_le, bytes_eq, leb-true, Result, Ok, Err}
+use Rattle.std.proofs.Common.{◌≡◌, ℕ, zero, suc, ◌+◌, ◌-◌, ◌^◌, ◌&&◌, not, Bool, true, false, List, [], ◌∷◌, ◌++◌, length, map, Option, Some, None, is_some, option_map, refl, sym, ap, ap₂, ◌∙◌, subst, inl, inr, arith, append-nil, nat_lt, nat_le, bytes_eq, leb-true, Result, Ok}
 use Rattle.std.specs.Prelude.{◌⊎◌, slice_get, if◌then◌else◌}
 use Rattle.std.specs.List.{AllByRecursion, list_all, list_any}
-use Rattle.std.proofs.lemmas.Bool.{and_from, and_parts, cases_Bool, eqb-true, false≢true, or_cases}
+use Rattle.std.proofs.lemmas.Bool.{and_from, and_parts, eqb-true, false≢true, or_cases}
 use lib.Pointwise.{bytes_decides}
 use Rattle.vpn_base.specs.declared.address.Addr.{Addr}
 use Rattle.vpn_base.specs.declared.address.Ip4.{Ip4}
@@ -24,19 +24,19 @@ use Rattle.inner_verdict.specs.Verdict.{verdict}
 use Rattle.peer_table.specs.Places.{changed_at, last_place, later}
 use Rattle.peer_table.specs.KeySessions.{Keys, Keyed, Named, Opening, Session, Stage, has_keys, is_keyed, keys_of, kid_of, newest_usable, session_at}
 use Rattle.peer_table.specs.DataPackets as packets
-use Rattle.peer_table.specs.Peer.{Outcome, Peer, answered}
+use Rattle.peer_table.specs.Peer.{Outcome, Peer}
 use Rattle.server_table.specs.Table.{Client, Established, Table}
 use Rattle.server_table.specs.Lookups.{cid, client_here, is_address}
-use Rattle.server_table.specs.Courses.{Course, Staged, outs, reported}
-use Rattle.server_table.specs.DataDatagrams.{FromWire, carried, carried_as, is_taken, moved, moved_if, passed, ping}
+use Rattle.server_table.specs.Courses.{Course, Staged, reported}
+use Rattle.server_table.specs.DataDatagrams.{carried, carried_as, is_taken, moved, moved_if, passed, ping}
 use Rattle.server_table.specs.InnerPackets.{is_host_of, learned, learned_unless_lacking, learned_where, most_queued, queued, queued_unless_full, sealed_as, sealed_for, sealed_to, sealed_with, with_sent}
 use Rattle.server_table.specs.Establishing.{networks_of}
 use Rattle.server_table.specs.Sound.{IsEstablishedAt}
 use Rattle.server_table.specs.Step.{device_came, device_passed}
-use Rattle.server_laws.specs.HandedOn.{DoesLast, GoesOn, IsDealtWith, IsHandedOn, IsKeySpent, IsQueued, IsReason, IsReported, IsSealed, IsSealedTo, IsSpentFor, carrying, is_aside, is_carrying, sealed_by, sealed_in, verdict_on}
+use Rattle.server_laws.specs.HandedOn.{DoesLast, GoesOn, IsDealtWith, IsKeySpent, IsQueued, IsReason, IsReported, IsSealed, IsSealedTo, IsSpentFor, is_aside, sealed_by, sealed_in, verdict_on}
 use Rattle.server_laws.specs.WellKept.{AreNamed, AreThoseEstablished, HaveKeys, rows_at, rows_for, rows_with}
 use Rattle.server_laws.proofs.Places.{get_changed, none_some, some_same}
-use Rattle.server_laws.proofs.Closed.{DealsWith, IsClosed, here_at, here_from}
+use Rattle.server_laws.proofs.Closed.{here_at, here_from}
 use Rattle.server_laws.proofs.ClosedSteps.{learned_kept, moved_kept}
 use Rattle.server_laws.proofs.KeptTables.{Good, good_closed, good_deals}
 use Rattle.server_laws.proofs.Opening.{last_is}

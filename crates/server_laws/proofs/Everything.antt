@@ -1,5 +1,5 @@
 -- Every kind of event keeps what is kept by each thing that a step does.
-use Rattle.std.proofs.Common.{◌≡◌, ℕ, Bool, true, false, List, [], ◌∷◌, ◌++◌, length, Option, Some, None, refl, Result, Ok, Err}
+use Rattle.std.proofs.Common.{◌≡◌, ℕ, Bool, List, length, Some, refl, Result, Ok, Err}
 use Rattle.vpn_base.specs.declared.address.Addr.{Addr}
 use Rattle.vpn_base.specs.declared.names.Draw.{Draw}
 use Rattle.vpn_base.specs.declared.names.Malformed.{Malformed}
@@ -11,8 +11,8 @@ use Rattle.opcode_codec.specs.DataPacket.{DataForm}
 use Rattle.opcode_codec.specs.Packet.{PacketForm, Wrapped, Inner, packet_of}
 use Rattle.packet_ids.specs.declared.sending.Spent.{Spent}
 use Rattle.peer_table.specs.DataPackets as packets
-use Rattle.peer_table.specs.Peer.{Outcome, Peer}
-use Rattle.server_table.specs.Table.{Client, Table}
+use Rattle.peer_table.specs.Peer.{Peer}
+use Rattle.server_table.specs.Table.{Client}
 use Rattle.server_table.specs.Lookups.{cid, client_here}
 use Rattle.server_table.specs.Courses.{Course, client_changed, counted, did, with_client}
 use Rattle.server_table.specs.ControlDatagrams.{first_of}

@@ -1,5 +1,5 @@
 -- Every step keeps a table well.
-use Rattle.std.proofs.Common.{◌≡◌, ◌≤◌, ℕ, zero, suc, ◌+◌, ◌^◌, ◌||◌, Bool, true, false, List, [], ◌∷◌, ◌++◌, length, Option, Some, None, is_some, refl, sym, ap, ◌∙◌, subst, inl, inr, arith, length-append, leb-false, nat_le}
+use Rattle.std.proofs.Common.{◌≡◌, ◌≤◌, ℕ, zero, suc, ◌^◌, true, false, List, [], ◌∷◌, ◌++◌, length, Option, Some, None, is_some, refl, sym, ap, ◌∙◌, subst, inl, inr, arith, length-append, leb-false, nat_le}
 use Rattle.std.specs.Prelude.{◌⊎◌, slice_get}
 use Rattle.std.proofs.lemmas.Bool.{false≢true}
 use Rattle.vpn_base.specs.declared.address.Addr.{Addr}
@@ -14,13 +14,13 @@ use Rattle.peer_table.specs.KeySessions.{Keys, Session, keys_of}
 use Rattle.peer_table.specs.KeySessions as sessions
 use Rattle.peer_table.specs.Peer.{Peer, began}
 use Rattle.server_table.specs.Table.{Client, Established, FileState, Awaited, Known, Table, Unasked}
-use Rattle.server_table.specs.Lookups.{cid, client_here, free_peer_id}
+use Rattle.server_table.specs.Lookups.{cid, free_peer_id}
 use Rattle.server_table.specs.Courses.{Course}
 use Rattle.server_table.specs.ControlDatagrams.{client_begun, session_begun}
 use Rattle.server_table.specs.Endings.{gone}
 use Rattle.server_table.specs.Establishing.{ccd_in, host_route, networks_of, with_address}
 use Rattle.server_table.specs.InnerPackets.{most_queued}
-use Rattle.server_laws.specs.WellKept.{AreNamed, AreOfOwners, AreThoseEstablished, HaveKeys, IsClientKept, IsKnown, IsWellKept, rows_at, rows_with}
+use Rattle.server_laws.specs.WellKept.{AreNamed, AreOfOwners, AreThoseEstablished, HaveKeys, IsClientKept, IsKnown, IsWellKept, rows_with}
 use Rattle.server_laws.proofs.Places.{WasChanged, got_appended, got_changed, none_some, some_same}
 use Rattle.server_laws.proofs.Peers.{HadKeys, PeerExchanged, PeerKept, all_closed_kept, peer_same}
 use Rattle.server_laws.proofs.Closed.{ClientKept, DealsWith, IsClosed, IsReady, at_place, here_at}

@@ -1,18 +1,16 @@
 -- What it tells that a client's session accepts a data packet, and when it does.
-use Rattle.std.proofs.Common.{◌≡◌, ℕ, zero, suc, ◌+◌, ◌-◌, ◌%◌, ◌==◌, Bool, true, false, cond, List, [], ◌∷◌, length, take, Option, Some, None, option_map, refl, sym, ap, ◌∙◌, subst, inl, inr, arith, nat_lt, nat_le, Result, Ok, Err, is_ok, unwrap_or}
+use Rattle.std.proofs.Common.{◌≡◌, ℕ, zero, suc, ◌-◌, ◌==◌, Bool, true, false, cond, List, [], ◌∷◌, take, Option, Some, None, refl, sym, ap, ◌∙◌, subst, inl, inr, arith, nat_le, Result, Ok, Err, is_ok}
 use Rattle.std.specs.Prelude.{◌⊎◌, slice_get, if◌then◌else◌, find}
 use Rattle.std.proofs.lemmas.Bool.{and_parts, eq-eqb, eqb-true, false≢true, ne_eqb}
 use Rattle.vpn_base.specs.declared.names.Freshness.{Freshness}
 use Rattle.vpn_base.specs.declared.names.Freshness.TheVariants.{Fresh, Zero, Old, Seen, Late}
 use Rattle.vpn_base.specs.declared.names.Moment.{Moment}
 use Rattle.vpn_base.specs.declared.names.Timers.{Timers}
-use Rattle.packet_ids.specs.Freshness.{Accepted, History, freshness, greatest_id, is_overtaken, judged, was_accepted}
-use Rattle.peer_table.specs.declared.outcomes.SessionFault.{SessionFault}
+use Rattle.packet_ids.specs.Freshness.{History, freshness, greatest_id, is_overtaken, was_accepted}
 use Rattle.peer_table.specs.Places.{last_place, later}
 use Rattle.peer_table.specs.KeySessions.{Keys, Session, has_keys, in_transition, keyed_before, keys_of, kid_of, newest_usable, retiring, session_at, usable, usable_of, usable_with, with_kid}
 use Rattle.peer_table.specs.Orderly.{IsOrderly, all_before_have_keys}
-use Rattle.peer_table.specs.Peer.{Outcome, Peer, answered, other}
-use Rattle.peer_table.specs.DataPackets as packets
+use Rattle.peer_table.specs.Peer.{Peer, answered, other}
 use Rattle.peer_table.specs.DataPackets.{data_came, data_kid, opened_as, opened_by, opened_in, opened_judged, opened_under, with_received}
 use Rattle.server_laws.specs.Accepted.{IsOneOf}
 use Rattle.server_laws.proofs.Places.{none_some, some_same}

@@ -1,5 +1,5 @@
 -- What each call of a client's session keeps of its key sessions: every id that was accepted, and the keys.
-use Rattle.std.proofs.Common.{◌≡◌, ℕ, zero, suc, ◌+◌, ◌==◌, Bool, true, false, List, [], ◌∷◌, ◌++◌, length, map, Option, Some, None, is_some, refl, sym, ap, ◌∙◌, subst, inl, inr, Result, Ok, Err}
+use Rattle.std.proofs.Common.{◌≡◌, ℕ, zero, suc, ◌+◌, ◌==◌, Bool, true, false, List, [], ◌∷◌, ◌++◌, length, map, Option, Some, None, is_some, refl, sym, ap, ◌∙◌, subst, inl, inr}
 use Rattle.std.specs.Prelude.{◌⊎◌, ◌||◌, slice_get, if◌then◌else◌}
 use Rattle.std.specs.List.{list_any}
 use Rattle.std.specs.Str.{bytes_eq}
@@ -27,12 +27,12 @@ use Rattle.control_link.specs.Links.{Link}
 use Rattle.control_link.specs.Reading.{read_here}
 use Rattle.peer_table.specs.declared.outcomes.Turn.{Turn}
 use Rattle.peer_table.specs.declared.outcomes.Turn.TheVariants.{Going, Over}
-use Rattle.peer_table.specs.Places.{changed_at, places_from}
+use Rattle.peer_table.specs.Places.{changed_at}
 use Rattle.peer_table.specs.KeySessions.{Keyed, Keys, Named, Opening, Session, Stage, closed, has_keys, is_keyed, keys_of, kid_of, live_with, newest, newest_session, newest_usable, session_at, session_begun, usable_with}
-use Rattle.peer_table.specs.Peer.{Opens, Outcome, Peer, answered, gone_on, other, ready_sent, ready_sent_in, remote_of, with_link}
+use Rattle.peer_table.specs.Peer.{Opens, Outcome, Peer, answered, gone_on, other, ready_sent_in, remote_of}
 use Rattle.peer_table.specs.ControlPackets.{Incoming, begins_next, begun_by, control_came, judged, kid_in, most_in_order, next_session, placed, sender, taken_by, with_next}
-use Rattle.peer_table.specs.EngineAnswers.{answer_in, answer_on, conn_in, engine_came, judged_at, kept_name, message_of, name_at, name_came, name_given, name_in, name_judged, plain_came, prepared_message, session_on, text_came, text_said, with_named}
-use Rattle.peer_table.specs.Exchange.{after_message, after_message_in, at_most_two, block_of, chosen, exchanged, exchanged_from, exchanged_with, is_open_keyed, message_read, oldest_of, server_source, session_closed, waiting_in}
+use Rattle.peer_table.specs.EngineAnswers.{answer_in, answer_on, conn_in, engine_came, judged_at, kept_name, message_of, name_at, name_came, name_given, name_in, plain_came, prepared_message, session_on, text_came, text_said, with_named}
+use Rattle.peer_table.specs.Exchange.{after_message, after_message_in, block_of, chosen, exchanged, exchanged_from, exchanged_with, message_read, server_source, session_closed, waiting_in}
 use Rattle.peer_table.specs.DataPackets as packets
 use Rattle.peer_table.specs.DataPackets.{data_came, ids_are_spent, opened_as, opened_by, opened_in, opened_judged, opened_under, sealed_by, sealed_in, sealed_to}
 use Rattle.peer_table.specs.Time.{Ticking, all_closed, gone_by, is_late, renewed, renews, resent, resent_in, retired, staying, ticked, ticked_idle, ticked_late}

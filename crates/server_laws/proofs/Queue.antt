@@ -1,28 +1,24 @@
 -- The packets that wait, step by step.
-use Rattle.std.proofs.Common.{◌≡◌, ℕ, zero, suc, Bool, true, false, cond, List, [], ◌∷◌, ◌++◌, length, map, drop, Option, Some, None, refl, sym, ap, ap₂, ◌∙◌, subst, append-nil, append_assoc}
-use Rattle.std.specs.List.{AllByRecursion, cons_option, list_all}
+use Rattle.std.proofs.Common.{◌≡◌, ℕ, Bool, true, false, List, [], ◌∷◌, ◌++◌, length, map, drop, None, refl, sym, ap, ap₂, ◌∙◌, subst, append-nil, append_assoc}
+use Rattle.std.specs.List.{AllByRecursion, cons_option}
 use Rattle.vpn_base.specs.declared.address.Addr.{Addr}
-use Rattle.vpn_base.specs.declared.names.Draw.{Draw}
 use Rattle.vpn_links.specs.Actions.{Action, Ask, Configure, Device, EngineClose, EngineOpen, EnginePut, EngineWrite, Report, Say, Stop, Wire, on_wire}
 use Rattle.vpn_links.specs.declared.events.Event.{Event}
 use Rattle.vpn_links.specs.declared.events.Kind.{Kind}
 use Rattle.vpn_links.specs.declared.events.Kind.TheVariants.{Datagram, EngineText, EnginePlain, EngineUp, EngineDown, DeviceIn, DeviceReady, File, Line, Tick, Halt}
-use Rattle.vpn_links.specs.declared.notes.Note.{Note}
-use Rattle.vpn_links.specs.declared.notes.Note.TheVariants as notes
 use Rattle.vpn_links.specs.Steps.{Lack, LacksAll, LacksHost, LacksNothing}
-use Rattle.server_table.specs.Table.{Client, Table}
+use Rattle.server_table.specs.Table.{Table}
 use Rattle.server_table.specs.Courses.{Course, Staged, outs}
-use Rattle.server_table.specs.DataDatagrams.{ping}
 use Rattle.server_table.specs.InnerPackets.{dequeued, device_ready}
 use Rattle.server_table.specs.Runs.{Entry, after, after_all, after_lacking, outs_at, outs_lacking}
-use Rattle.server_table.specs.Step.{came, course_begun, course_of, is_over, moment_of, step}
-use Rattle.server_laws.specs.HandedOn.{Brings, BringsNone, BringsOne, DoesLast, GoesOn, IsDealtWith, IsHandedOn, IsQueued, IsQuiet, IsReported, IsSealed, IsSealedPing, IsSealedTo, carrying}
+use Rattle.server_table.specs.Step.{came, course_begun, course_of, is_over, step}
+use Rattle.server_laws.specs.HandedOn.{Brings, BringsNone, BringsOne, DoesLast, GoesOn, IsDealtWith, IsQueued, IsQuiet, IsReported, IsSealed, IsSealedPing, IsSealedTo, carrying}
 use Rattle.server_laws.specs.Waiting.{all_appended, all_given, appended, given, given_by}
 use Rattle.server_laws.specs.WellKept.{IsWellKept}
 use Rattle.server_laws.proofs.ClosedSteps.{tick_course_kept}
 use Rattle.server_laws.proofs.Dealing.{device_came_dealt}
 use Rattle.server_laws.proofs.Everything.{came_quietly}
-use Rattle.server_laws.proofs.Quiet.{IsQuietly, Quietly, Ticking, asides_quiet, given_append, none_given, quiet_closed, staged_given, ticking_closed, ticking_seals}
+use Rattle.server_laws.proofs.Quiet.{Quietly, Ticking, asides_quiet, given_append, none_given, quiet_closed, staged_given, ticking_closed, ticking_seals}
 use Rattle.server_laws.proofs.Steps.{begun_about, by_over, came_brings, good_begun, step_goes}
 use Rattle.server_laws.proofs.Verdicts.{device_not_to_device}
 

@@ -1,6 +1,5 @@
 -- Steps that hand nothing on.
-use Rattle.std.proofs.Common.{◌≡◌, ℕ, Bool, true, false, cond, List, [], ◌∷◌, ◌++◌, filter, map, length, Option, Some, None, refl, sym, ap, ◌∙◌, subst, append-nil, ◌+◌, Result, Ok, Err}
-use Rattle.std.specs.Prelude.{filter_map}
+use Rattle.std.proofs.Common.{◌≡◌, ℕ, Bool, true, false, cond, List, [], ◌∷◌, ◌++◌, map, Option, Some, None, refl, sym, ap, ◌∙◌, subst, append-nil, ◌+◌}
 use Rattle.std.specs.List.{AllByRecursion, cons_option, list_all}
 use Rattle.std.proofs.lemmas.Bool.{and_parts, false≢true}
 use Rattle.vpn_base.specs.declared.address.Addr.{Addr}
@@ -15,15 +14,15 @@ use Rattle.ovpn_config.specs.declared.settings.Settings.{Settings}
 use Rattle.peer_table.specs.KeySessions.{Keys, Session, keys_of, kid_of, newest_usable, session_at}
 use Rattle.peer_table.specs.DataPackets as packets
 use Rattle.peer_table.specs.Outboxes.{actions_of}
-use Rattle.peer_table.specs.Peer.{Closes, Doing, Opens, Outcome, Peer, Puts, Writes}
+use Rattle.peer_table.specs.Peer.{Closes, Doing, Opens, Puts, Writes}
 use Rattle.peer_table.specs.Time.{closings}
 use Rattle.server_table.specs.Table.{Client, Established, Table}
-use Rattle.server_table.specs.Lookups.{cid, client_here}
-use Rattle.server_table.specs.Courses.{Course, Staged, outs}
+use Rattle.server_table.specs.Lookups.{cid}
+use Rattle.server_table.specs.Courses.{Course, Staged}
 use Rattle.server_table.specs.DataDatagrams.{ping}
 use Rattle.server_table.specs.Endings.{disconnect_line, ending_effects}
 use Rattle.server_table.specs.Establishing.{ccd_in, establishing_lines, network_line, reply}
-use Rattle.server_table.specs.InnerPackets.{sealed_as, sealed_with}
+use Rattle.server_table.specs.InnerPackets.{sealed_with}
 use Rattle.server_laws.specs.HandedOn.{IsSealedPing, carrying, is_aside, is_carrying}
 use Rattle.server_laws.specs.Waiting.{given, given_by}
 use Rattle.server_laws.proofs.Closed.{IsClosed, SealsOf, here_at}
@@ -126,10 +125,11 @@ ticking_closed t = record {
   alters = λ n f c keeps is. (good_closed.alters n f c keeps is.0, is.1);
   ends = λ n cause x c here is.
       (good_closed.ends n cause x c here is.0, more_pings c.effects (ending_effects n cause x) (ending_quiet n cause x) is.1);
-  establishes = λ n conn x l c here ready is.
-      (good_closed.establishes n conn x l c here ready is.0,
-       more_pings c.effects (reply c.table.settings x l conn ++ establishing_lines n x l.0)
-       (carrying_more (reply c.table.settings x l conn) (establishing_lines n x l.0) (establishing_quiet n x l.0) ∙ reply_quiet c.table.settings x l conn) is.1);
+  establishes = λ n conn x l c here ready is. (
+    good_closed.establishes n conn x l c here ready is.0,
+    more_pings c.effects (reply c.table.settings x l conn ++ establishing_lines n x l.0)
+        (carrying_more (reply c.table.settings x l conn) (establishing_lines n x l.0) (establishing_quiet n x l.0) ∙ reply_quiet c.table.settings x l conn) is.1,
+  );
   admits = λ from draw c is. (good_closed.admits from draw c is.0, is.1);
 }
 
@@ -149,15 +149,17 @@ one_ping effects to bytes ping is = record {
 by_seals : {t : Table} (n : ℕ) (x : Client) (k : ℕ) (s : Session) (keys : Option Keys) (spent : Bool) (c : Course) → x.session.role ≡ roles.Server →
     Good (sealed_with n x c (packets.sealed_by x.session ping k s keys spent)) → IsTicking t c.table.queue c.effects →
     Ticking t (sealed_with n x c (packets.sealed_by x.session ping k s keys spent))
-by_seals n x k s (Some keys) false c role good is =
-    (good, one_ping c.effects x.address (packets.sealed_under x.session.role keys (kid_of k) (s.sealed + 1) ping)
-    (record {
-      to = x.address;
-      keys = keys;
-      number = k;
-      id = s.sealed + 1;
-      is_packet = ap (λ (role : Role). Wire x.address (packets.sealed_under role keys (kid_of k) (s.sealed + 1) ping)) role;
-    }) is)
+by_seals n x k s (Some keys) false c role good is = (
+  good,
+  one_ping c.effects x.address (packets.sealed_under x.session.role keys (kid_of k) (s.sealed + 1) ping)
+      (record {
+        to = x.address;
+        keys = keys;
+        number = k;
+        id = s.sealed + 1;
+        is_packet = ap (λ (role : Role). Wire x.address (packets.sealed_under role keys (kid_of k) (s.sealed + 1) ping)) role;
+      }) is,
+)
 by_seals n x k s (Some keys) true c role good is = (good, more_pings c.effects (Report (notes.KeySpent (cid n)) ∷ []) refl is)
 by_seals n x k s None spent c role good is = (good, more_pings c.effects (Report (notes.KeySpent (cid n)) ∷ []) refl is)
 

@@ -1,5 +1,5 @@
 -- The rows of the route table stay those of the established clients, in order of establishing; and learned hosts stay their owners'.
-use Rattle.std.proofs.Common.{◌≡◌, ◌≤◌, ℕ, zero, suc, ◌==◌, not, cond, Bool, true, false, List, [], ◌∷◌, ◌++◌, filter, length, map, take, Option, Some, None, is_some, refl, sym, ap, ap₂, ◌∙◌, subst, inl, inr, append_assoc, append-nil, arith, le_trans, le_of_eq}
+use Rattle.std.proofs.Common.{◌≡◌, ◌≤◌, ℕ, zero, suc, ◌==◌, not, cond, Bool, true, false, List, [], ◌∷◌, ◌++◌, filter, length, take, Option, Some, None, is_some, refl, sym, ap, ap₂, ◌∙◌, subst, inl, inr, append_assoc, append-nil, arith, le_trans, le_of_eq}
 use Rattle.std.specs.Prelude.{◌⊎◌, slice_get}
 use Rattle.std.specs.List.{AllByRecursion}
 use Rattle.std.proofs.lemmas.Bool.{eq-eqb, eqb-false, eqb-true, false≢true}
@@ -16,7 +16,7 @@ use Rattle.server_table.specs.Establishing.{networks_of, with_address}
 use Rattle.server_table.specs.Sound.{IsEstablishedAt}
 use Rattle.server_laws.specs.Accepted.{IsOneOf}
 use Rattle.server_laws.specs.WellKept.{AreDistinct, AreInTime, AreOfOwners, AreThoseEstablished, rows_at, rows_for, rows_with, since_at, since_of}
-use Rattle.server_laws.proofs.Places.{WasChanged, get_appended, get_changed, get_other, got_appended, got_changed, none_some, some_same, went_changed}
+use Rattle.server_laws.proofs.Places.{WasChanged, get_appended, get_changed, get_other, got_appended, got_changed, some_same, went_changed}
 
 -- ---- what is read of the client at a place
 

@@ -1,11 +1,9 @@
 -- The laws over runs.
-use Rattle.std.proofs.Common.{◌≡◌, ℕ, ◌||◌, Bool, true, false, List, [], ◌∷◌, ◌++◌, length, Option, Some, None, refl, sym, ap, ◌∙◌, subst, arith, true≢false, Result, Ok, Err}
-use Rattle.std.specs.Prelude.{IsFalse}
+use Rattle.std.proofs.Common.{◌≡◌, ℕ, ◌||◌, Bool, true, false, List, [], ◌∷◌, ◌++◌, Some, refl, sym, ap, ◌∙◌, subst, arith, true≢false, Ok}
 use Rattle.std.specs.List.{IsAmong}
 use Rattle.std.proofs.lemmas.Bool.{false≢true}
 use Rattle.vpn_base.specs.declared.address.Addr.{Addr}
 use Rattle.vpn_base.specs.declared.names.Cid.{Cid}
-use Rattle.vpn_base.specs.declared.names.Malformed.{Malformed}
 use Rattle.vpn_links.specs.Actions.{Report}
 use Rattle.vpn_links.specs.Steps.{Lack, LacksAll, LacksHost, LacksNothing}
 use Rattle.vpn_links.specs.declared.events.Event.{Event}
@@ -13,22 +11,20 @@ use Rattle.vpn_links.specs.declared.events.Kind.{Kind}
 use Rattle.vpn_links.specs.declared.events.Kind.TheVariants.{Datagram}
 use Rattle.vpn_links.specs.declared.notes.Note.{Note}
 use Rattle.vpn_links.specs.declared.notes.Note.TheVariants as notes
-use Rattle.opcode_codec.specs.Packet.{PacketForm, Inner, packet_of}
+use Rattle.opcode_codec.specs.Packet.{Inner, packet_of}
 use Rattle.opcode_codec.specs.DataPacket.{DataForm}
 use Rattle.ovpn_config.specs.declared.settings.Settings.{Settings}
 use Rattle.inner_verdict.specs.declared.Verdict.{Verdict}
 use Rattle.inner_verdict.specs.declared.Verdict.TheVariants as verdicts
-use Rattle.packet_ids.specs.Freshness.{was_accepted}
-use Rattle.server_table.specs.Table.{Client, Table, table_begun}
-use Rattle.server_table.specs.Lookups.{cid}
+use Rattle.server_table.specs.Table.{Table, table_begun}
 use Rattle.server_table.specs.Courses.{Course, outs}
 use Rattle.server_table.specs.DataDatagrams.{ping}
 use Rattle.server_table.specs.Runs.{Entry, MayLack, MayRun, after, after_all, after_lacking, is_free, is_free_kind, is_free_packet, is_refusal}
 use Rattle.server_table.specs.Sealed.{OnlySealedOpen, OpensOnlySealed, SealedPacket}
 use Rattle.server_table.specs.Sound.{IsSound}
-use Rattle.server_table.specs.Step.{course_begun, course_of, is_over, moment_of, step}
+use Rattle.server_table.specs.Step.{course_begun, is_over, moment_of, step}
 use Rattle.server_laws.specs.Accepted.{Accepts, IsAccepted}
-use Rattle.server_laws.specs.HandedOn.{DoesLast, GoesOn, IsDealtWith, IsForward, IsFull, IsKeySpent, IsOn, IsReason, IsReported, IsSentOn, IsSpent, IsSpentFor, verdict_on}
+use Rattle.server_laws.specs.HandedOn.{DoesLast, GoesOn, IsDealtWith, IsForward, IsFull, IsOn, IsReason, IsReported, IsSentOn, IsSpent, IsSpentFor, verdict_on}
 use Rattle.server_laws.specs.WellKept.{IsWellKept}
 use Rattle.server_laws.proofs.Closed.{DealsWith, IsClosed, here_at}
 use Rattle.server_laws.proofs.Everything.{came_kept, seals_all}

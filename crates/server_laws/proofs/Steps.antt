@@ -1,51 +1,46 @@
 -- What one step does with packets.
-use Rattle.std.proofs.Common.{◌≡◌, ◌≤◌, ℕ, suc, ◌+◌, ◌^◌, ◌==◌, ◌&&◌, min, max, Bool, true, false, List, [], ◌∷◌, ◌++◌, length, map, drop, Option, Some, None, refl, sym, ap, ◌∙◌, subst, inl, inr, arith, append-nil, Result, Ok, Err}
-use Rattle.std.specs.Prelude.{◌⊎◌, slice_get}
+use Rattle.std.proofs.Common.{◌≡◌, ℕ, ◌==◌, Bool, true, false, List, [], ◌∷◌, ◌++◌, length, map, Option, Some, None, refl, sym, ap, ◌∙◌, subst, arith, Result, Ok, Err}
+use Rattle.std.specs.Prelude.{slice_get}
 use Rattle.std.proofs.lemmas.Bool.{and_from, and_parts, eq-eqb, eqb-true, false≢true}
 use Rattle.vpn_base.specs.declared.address.Addr.{Addr}
 use Rattle.vpn_base.specs.declared.names.Draw.{Draw}
 use Rattle.vpn_base.specs.declared.names.Malformed.{Malformed}
 use Rattle.vpn_base.specs.declared.names.Moment.{Moment}
 use Rattle.vpn_base.specs.declared.names.Role.{Role}
-use Rattle.vpn_base.specs.declared.names.Role.TheVariants as roles
 use Rattle.vpn_base.specs.declared.names.Timers.{Timers}
-use Rattle.vpn_links.specs.Actions.{Action, Device, Report, Wire, on_wire}
+use Rattle.vpn_links.specs.Actions.{Action, Report, on_wire}
 use Rattle.vpn_links.specs.declared.events.Event.{Event}
 use Rattle.vpn_links.specs.declared.events.Kind.{Kind}
-use Rattle.vpn_links.specs.declared.events.Kind.TheVariants.{Datagram, EngineText, EnginePlain, EngineUp, EngineDown, DeviceIn, DeviceReady, File, Line, Tick, Halt}
-use Rattle.vpn_links.specs.declared.notes.Note.{Note}
-use Rattle.vpn_links.specs.declared.notes.Note.TheVariants as notes
+use Rattle.vpn_links.specs.declared.events.Kind.TheVariants.{Datagram}
 use Rattle.opcode_codec.specs.DataPacket.{DataForm}
 use Rattle.opcode_codec.specs.Packet.{PacketForm, Wrapped, Inner, packet_of}
 use Rattle.ip_packets.specs.Inner.{source}
 use Rattle.route_table.specs.Owner.{owner}
 use Rattle.peer_table.specs.declared.outcomes.SessionFault.{SessionFault}
 use Rattle.peer_table.specs.declared.outcomes.SessionFault.TheVariants as faults
-use Rattle.peer_table.specs.Places.{changed_at, first_place}
+use Rattle.peer_table.specs.Places.{first_place}
 use Rattle.packet_ids.specs.Freshness.{recorded}
 use Rattle.peer_table.specs.KeySessions.{Session, kid_of, usable}
 use Rattle.peer_table.specs.Peer.{Outcome, Peer, other}
 use Rattle.peer_table.specs.DataPackets as packets
 use Rattle.server_table.specs.Table.{Client, Table}
 use Rattle.server_table.specs.Lookups.{by_peer_id, cid, client_here, has_peer_id}
-use Rattle.server_table.specs.Courses.{Course, Staged, outs}
+use Rattle.server_table.specs.Courses.{Course, Staged}
 use Rattle.server_table.specs.ControlDatagrams.{control_arrived}
 use Rattle.server_table.specs.DataDatagrams.{FromWire, accepted, carried, data_at, data_came, data_for, moved, opened_as, refused, with_opened}
-use Rattle.server_table.specs.InnerPackets.{dequeued, device_ready}
 use Rattle.server_table.specs.Sound.{AtMostOne, IsSound}
-use Rattle.server_table.specs.Step.{came, course_begun, course_of, datagram_as, device_came, is_over, moment_of, step, step_if}
+use Rattle.server_table.specs.Step.{came, course_begun, course_of, datagram_as, is_over, moment_of, step, step_if}
 use Rattle.server_laws.specs.Accepted.{Accepts, IsAccepted, IsOneOf}
-use Rattle.server_laws.specs.HandedOn.{Brings, BringsNone, BringsOne, DoesLast, GoesOn, IsDealtWith, IsHandedOn, IsQueued, IsQuiet, IsReported, IsSealed, carrying, sealed_by, sealed_in}
+use Rattle.server_laws.specs.HandedOn.{Brings, BringsNone, BringsOne, DoesLast, GoesOn, IsDealtWith, IsHandedOn, IsQueued, IsReported, IsSealed, carrying, sealed_by, sealed_in}
 use Rattle.server_laws.specs.WellKept.{IsWellKept}
-use Rattle.server_laws.proofs.Places.{first_is, get_changed, none_passes, none_some, some_same}
-use Rattle.server_laws.proofs.Closed.{here_at, here_from}
+use Rattle.server_laws.proofs.Places.{first_is, get_changed, none_passes, some_same}
+use Rattle.server_laws.proofs.Closed.{here_at}
 use Rattle.server_laws.proofs.ClosedSteps.{accepted_kept, arrived_kept, carried_kept, moved_kept}
-use Rattle.server_laws.proofs.Dealing.{IsAbout, carried_dealt, device_came_dealt, moved_about, outs_alone}
-use Rattle.server_laws.proofs.Everything.{came_kept, came_quietly}
-use Rattle.server_laws.proofs.Ids.{AllKept, HasAccepted, KeptSince, all_same, has_still, now_accepted, since_closed, since_deals}
-use Rattle.server_laws.proofs.KeptTables.{Good, good_closed, good_deals, parts_kept, whole_kept}
+use Rattle.server_laws.proofs.Dealing.{IsAbout, carried_dealt, moved_about}
+use Rattle.server_laws.proofs.Ids.{HasAccepted, all_same, has_still, now_accepted, since_closed, since_deals}
+use Rattle.server_laws.proofs.KeptTables.{Good, good_closed}
 use Rattle.server_laws.proofs.Opening.{OpenedAs, answer_tells, opened_answers, usable_found, usable_is}
-use Rattle.server_laws.proofs.Quiet.{IsQuietly, IsTicking, asides_quiet, carrying_append, carrying_more, is_empty, quiet_closed}
+use Rattle.server_laws.proofs.Quiet.{IsQuietly, asides_quiet, carrying_append, carrying_more, is_empty, quiet_closed}
 use Rattle.server_laws.proofs.Rows.{at_changed, until_later}
 use Rattle.server_laws.proofs.Verdicts.{owned_to_client, owned_to_device}
 

@@ -145,5 +145,5 @@ pub owner_is_good : (rows : List Row) (net : Option Network) (between : Bool) (n
 owner_is_good rows net between n inner other owned e =
     let not : is_owned_by (cid n) (owner rows (source inner)) ≡ false
     = subst (OwnsNot n (owner rows (source inner))) (by_owners rows net between (Some (cid n)) inner (BadSource other) refl refl refl e)
-        (bad_step between n (owner rows (source inner)) (owner rows (destination inner)) (is_owned_by (cid n) (owner rows (source inner))) refl) in
+    (bad_step between n (owner rows (source inner)) (owner rows (destination inner)) (is_owned_by (cid n) (owner rows (source inner))) refl) in
     false≢true (sym not ∙ ap (is_owned_by (cid n)) owned ∙ eq-eqb n n refl)

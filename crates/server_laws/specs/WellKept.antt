@@ -1,7 +1,6 @@
 -- What holds of every table that a run comes to, of its rows, its learned hosts, its clients and its queue.
-use Rattle.std.specs.Prelude.{◌≡◌, ℕ, ◌≤◌, ◌^◌, is_some, Bool, true, List, [], ◌∷◌, ◌++◌, length, Option, Some, None, slice_get}
+use Rattle.std.specs.Prelude.{◌≡◌, ℕ, ◌≤◌, ◌^◌, is_some, true, List, [], ◌∷◌, ◌++◌, length, Option, Some, None, slice_get}
 use Rattle.std.specs.List.{AllByRecursion, list_any}
-use Rattle.ccd_files.specs.declared.client_file.Ccd.{Ccd}
 use Rattle.vpn_base.specs.declared.names.Role.TheVariants.{Server}
 use Rattle.route_table.specs.Owner.{Row, owner}
 use Rattle.route_table.specs.Learned.{Host, rows_of}
