@@ -33,6 +33,7 @@ use Rattle.server_table.specs.InnerPackets.{is_host_of, learned, learned_unless_
 use Rattle.server_table.specs.Establishing.{networks_of}
 use Rattle.server_table.specs.Sound.{IsEstablishedAt}
 use Rattle.server_table.specs.Step.{device_came, device_passed}
+use Rattle.server_laws.specs.Accepted.{IsLastWithKeys}
 use Rattle.server_laws.specs.HandedOn.{DoesLast, GoesOn, IsDealtWith, IsKeySpent, IsQueued, IsReason, IsReported, IsSealed, IsSealedTo, IsSpentFor, is_aside, sealed_by, sealed_in, verdict_on}
 use Rattle.server_laws.specs.WellKept.{AreNamed, AreThoseEstablished, HaveKeys, rows_at, rows_for, rows_with}
 use Rattle.server_laws.proofs.Places.{get_changed, none_some, some_same}
@@ -200,6 +201,7 @@ keys_in (Keyed keys) s is e = record { keys = keys; has = ap (λ (stage : Stage)
 record Sealer (p : Peer) : Type 0 where
   number : ℕ
   newest : newest_usable p.sessions ≡ Some number
+  last : IsLastWithKeys p.sessions number
   session : Session
   there : slice_get p.sessions number ≡ Some session
   keys : Keys
@@ -211,7 +213,7 @@ sealer_of p None is e = absurd (false≢true e)
 sealer_of p (Some n) is e =
     let l = last_is p.sessions n is in
     let k = keys_in l.session.stage l.session refl l.keyed in
-    record { number = n; newest = is; session = l.session; there = l.there; keys = k.keys; has = k.has }
+    record { number = n; newest = is; last = l; session = l.session; there = l.there; keys = k.keys; has = k.has }
 
 sealer : (p : Peer) → HaveKeys p.sessions → Sealer p
 unfolding newest_usable
@@ -226,6 +228,11 @@ keyed_same (suc n) g (s ∷ ss) same = ap (λ (o : Option ℕ). later (has_keys 
 newest_same : (n : ℕ) (ss : List Session) → newest_usable (changed_at n (λ s. record s { sealed = s.sealed + 1 }) ss) ≡ newest_usable ss
 unfolding newest_usable
 newest_same n ss = keyed_same n (λ s. record s { sealed = s.sealed + 1 }) ss (λ s. refl)
+
+newest_last : (n : ℕ) (ss : List Session) → newest_usable (changed_at n (λ s. record s { sealed = s.sealed + 1 }) ss) ≡ Some n →
+    IsLastWithKeys (changed_at n (λ s. record s { sealed = s.sealed + 1 }) ss) n
+unfolding newest_usable
+newest_last n ss is = last_is (changed_at n (λ s. record s { sealed = s.sealed + 1 }) ss) n is
 
 -- what sealing answers
 sealed_answers : (p : Peer) (inner : List ℕ) (s : Sealer p) → packets.sealed_to inner p ≡ packets.sealed_by p inner s.number s.session (Some s.keys) (packets.ids_are_spent s.session)
@@ -250,7 +257,7 @@ goes_by n inner c y s true here role names spent =
       client = y;
       client_here = here;
       number = s.number;
-      is_newest = s.newest;
+      is_newest = s.last;
       session = s.session;
       session_there = s.there;
       is_spent = eqb-true s.session.sealed (2 ^ 32 - 1) spent;
@@ -266,7 +273,7 @@ goes_by n inner c y s false here role names spent =
       client = f y;
       client_here = here_from d.table n (f y) (get_changed n f c.table.clients y at.there) at.here;
       number = s.number;
-      is_newest = newest_same s.number y.session.sessions ∙ s.newest;
+      is_newest = newest_last s.number y.session.sessions (newest_same s.number y.session.sessions ∙ s.newest);
       session = g s.session;
       session_there = get_changed s.number g y.session.sessions s.session s.there;
       keys = s.keys;

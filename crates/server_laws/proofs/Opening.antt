@@ -1,18 +1,18 @@
 -- What it tells that a client's session accepts a data packet, and when it does.
-use Rattle.std.proofs.Common.{◌≡◌, ℕ, zero, suc, ◌-◌, ◌==◌, Bool, true, false, cond, List, [], ◌∷◌, take, Option, Some, None, refl, sym, ap, ◌∙◌, subst, inl, inr, arith, nat_le, Result, Ok, Err, is_ok}
+use Rattle.std.proofs.Common.{◌≡◌, ◌<◌, ◌≤◌, ℕ, zero, suc, ◌+◌, ◌*◌, ◌-◌, ◌==◌, not, Bool, true, false, cond, List, [], ◌∷◌, take, Option, Some, None, refl, sym, ap, ◌∙◌, subst, inl, inr, arith, nat_le, leb-true, leb-false, Result, Ok, Err, is_ok}
 use Rattle.std.specs.Prelude.{◌⊎◌, slice_get, if◌then◌else◌, find}
-use Rattle.std.proofs.lemmas.Bool.{and_parts, eq-eqb, eqb-true, false≢true, ne_eqb}
+use Rattle.std.proofs.lemmas.Bool.{and_parts, cases_order, eq-eqb, eqb-true, false≢true, ne_eqb, not-true}
 use Rattle.vpn_base.specs.declared.names.Freshness.{Freshness}
 use Rattle.vpn_base.specs.declared.names.Freshness.TheVariants.{Fresh, Zero, Old, Seen, Late}
 use Rattle.vpn_base.specs.declared.names.Moment.{Moment}
 use Rattle.vpn_base.specs.declared.names.Timers.{Timers}
 use Rattle.packet_ids.specs.Freshness.{History, freshness, greatest_id, is_overtaken, was_accepted}
 use Rattle.peer_table.specs.Places.{last_place, later}
-use Rattle.peer_table.specs.KeySessions.{Keys, Session, has_keys, in_transition, keyed_before, keys_of, kid_of, newest_usable, retiring, session_at, usable, usable_of, usable_with, with_kid}
+use Rattle.peer_table.specs.KeySessions.{Keys, Session, began_before, has_keys, in_transition, keyed_before, keys_of, kid_of, newest_usable, retiring, session_at, usable, usable_of, usable_with, with_kid}
 use Rattle.peer_table.specs.Orderly.{IsOrderly, all_before_have_keys}
 use Rattle.peer_table.specs.Peer.{Peer, answered, other}
 use Rattle.peer_table.specs.DataPackets.{data_came, data_kid, opened_as, opened_by, opened_in, opened_judged, opened_under, with_received}
-use Rattle.server_laws.specs.Accepted.{IsOneOf}
+use Rattle.server_laws.specs.Accepted.{IsLast, IsLastWithKeys, IsOneBefore, IsOneOf, IsUsable}
 use Rattle.server_laws.proofs.Places.{none_some, some_same}
 
 err_ok : {X Y : Type 0} {e : Y} {x : X} → Err e ≡ Ok x → ⊥
@@ -52,22 +52,54 @@ keyed_upto zero (x ∷ y ∷ ss) s all there = ap (λ (b : Bool). later b None) 
 keyed_upto (suc n) (x ∷ y ∷ ss) s all there =
     ap (λ (o : Option ℕ). later (has_keys x) o) (keyed_upto n (y ∷ ss) s (and_parts (has_keys x) (all_before_have_keys (y ∷ ss)) all).1 there)
 
--- the item at the last place passes
-pub record LastAt (ss : List Session) (n : ℕ) : Type 0 where
-  pub session : Session
-  pub there : slice_get ss n ≡ Some session
-  pub keyed : has_keys session ≡ true
+-- where there is no last place, none has keys
+none_step : (x : Session) (b : Bool) (o : Option ℕ) → has_keys x ≡ b → later b o ≡ None → (has_keys x ≡ false) × (o ≡ None)
+none_step x b (Some m) is e = absurd (none_some (sym e))
+none_step x true None is e = absurd (none_some (sym e))
+none_step x false None is e = (is, refl)
 
-last_step : (x : Session) (ss : List Session) (b : Bool) (o : Option ℕ) (n : ℕ) → has_keys x ≡ b → later b o ≡ Some n → ((m : ℕ) → o ≡ Some m → LastAt ss m) → LastAt (x ∷ ss) n
-last_step x ss b (Some m) n is e ih =
-    let l = ih m refl in
-    subst (λ (k : ℕ). LastAt (x ∷ ss) k) (some_same e) (record { session = l.session; there = l.there; keyed = l.keyed })
-last_step x ss true None n is e ih = subst (λ (k : ℕ). LastAt (x ∷ ss) k) (some_same e) (record { session = x; there = refl; keyed = is })
-last_step x ss false None n is e ih = absurd (none_some e)
+none_keyed : (ss : List Session) → last_place has_keys ss ≡ None → (j : ℕ) (y : Session) → slice_get ss j ≡ Some y → has_keys y ≡ false
+none_keyed [] e j y there = absurd (none_some there)
+none_keyed (x ∷ ss) e zero y there = ap has_keys (sym (some_same there)) ∙ (none_step x (has_keys x) (last_place has_keys ss) refl e).0
+none_keyed (x ∷ ss) e (suc j) y there = none_keyed ss (none_step x (has_keys x) (last_place has_keys ss) refl e).1 j y there
 
-pub last_is : (ss : List Session) (n : ℕ) → last_place has_keys ss ≡ Some n → LastAt ss n
+-- behind the first session
+behind_first : (x : Session) (ss : List Session) (m : ℕ) → IsLastWithKeys ss m → IsLastWithKeys (x ∷ ss) (suc m)
+behind_first x ss m l = record { session = l.session; there = l.there; keyed = l.keyed; none_later = later_than }
+  where
+    later_than : (j : ℕ) (y : Session) → suc m < j → slice_get (x ∷ ss) j ≡ Some y → has_keys y ≡ false
+    later_than zero y lt there = absurd (let none : ⊥ = omega (arith, lt) in none)
+    later_than (suc j) y lt there = l.none_later j y (omega (arith, lt)) there
+
+first_alone : (x : Session) (ss : List Session) → has_keys x ≡ true → last_place has_keys ss ≡ None → IsLastWithKeys (x ∷ ss) 0
+first_alone x ss is none = record { session = x; there = refl; keyed = is; none_later = later_than }
+  where
+    later_than : (j : ℕ) (y : Session) → 0 < j → slice_get (x ∷ ss) j ≡ Some y → has_keys y ≡ false
+    later_than zero y lt there = absurd (let none : ⊥ = omega (arith, lt) in none)
+    later_than (suc j) y lt there = none_keyed ss none j y there
+
+last_step : (x : Session) (ss : List Session) (b : Bool) (o : Option ℕ) (n : ℕ) → has_keys x ≡ b → last_place has_keys ss ≡ o → later b o ≡ Some n →
+    ((m : ℕ) → o ≡ Some m → IsLastWithKeys ss m) → IsLastWithKeys (x ∷ ss) n
+last_step x ss b (Some m) n is at e ih = subst (λ (k : ℕ). IsLastWithKeys (x ∷ ss) k) (some_same e) (behind_first x ss m (ih m refl))
+last_step x ss true None n is at e ih = subst (λ (k : ℕ). IsLastWithKeys (x ∷ ss) k) (some_same e) (first_alone x ss is at)
+last_step x ss false None n is at e ih = absurd (none_some e)
+
+pub last_is : (ss : List Session) (n : ℕ) → last_place has_keys ss ≡ Some n → IsLastWithKeys ss n
 last_is [] n e = absurd (none_some e)
-last_is (x ∷ ss) n e = last_step x ss (has_keys x) (last_place has_keys ss) n refl e (λ m there. last_is ss m there)
+last_is (x ∷ ss) n e = last_step x ss (has_keys x) (last_place has_keys ss) n refl refl e (λ m there. last_is ss m there)
+
+-- and only that is the last place
+pub last_from : (ss : List Session) (n : ℕ) → IsLastWithKeys ss n → last_place has_keys ss ≡ Some n
+last_from ss n l = go (last_place has_keys ss) refl
+  where
+    by_order : (m : ℕ) → IsLastWithKeys ss m → (m ≡ n) ⊎ ((m < n) ⊎ (n < m)) → Some m ≡ Some n
+    by_order m k (inl same) = ap (λ (i : ℕ). Some i) same
+    by_order m k (inr (inl lt)) = absurd (false≢true (sym (k.none_later n l.session lt l.there) ∙ l.keyed))
+    by_order m k (inr (inr lt)) = absurd (false≢true (sym (l.none_later m k.session lt k.there) ∙ k.keyed))
+
+    go : (o : Option ℕ) → last_place has_keys ss ≡ o → o ≡ Some n
+    go None e = absurd (false≢true (sym (none_keyed ss e n l.session l.there) ∙ l.keyed))
+    go (Some m) e = by_order m (last_is ss m e) (cases_order m n)
 
 before_next : (ss : List Session) (last older : ℕ) (s : Session) → all_before_have_keys ss ≡ true → slice_get ss last ≡ Some s →
     last_place has_keys (take last ss) ≡ Some older → last ≡ suc older
@@ -108,6 +140,63 @@ pub usable_found : (timers : Timers) (m : ℕ) (ss : List Session) (kid k : ℕ)
 unfolding usable_with usable retiring
 usable_found timers m ss kid k orderly one is =
     one_found (newest_usable ss) (keyed_before ss (newest_usable ss)) (in_transition timers m ss) kid k (next_of ss (newest_usable ss) orderly refl) one is
+
+-- ---- which sessions are usable, in plain words
+
+window_open : (timers : Timers) (m l : ℕ) (ss : List Session) (s : Session) → newest_usable ss ≡ Some l → slice_get ss l ≡ Some s →
+    in_transition timers m ss ≡ not (nat_le (s.began + 1000 * timers.tran) m)
+unfolding in_transition
+window_open timers m l ss s newest there =
+    ap (λ (o : Option ℕ). not (began_before timers.tran m (session_at ss o))) newest ∙ ap (λ (o : Option Session). not (began_before timers.tran m o)) there
+
+in_window : (a m : ℕ) → not (nat_le a m) ≡ true → m < a
+in_window a m e = leb-false a m (not-true (nat_le a m) e)
+
+window_from : (a m : ℕ) → m < a → not (nat_le a m) ≡ true
+window_from a m lt = ap not (below (nat_le a m) refl)
+  where
+    below : (b : Bool) → nat_le a m ≡ b → nat_le a m ≡ false
+    below true e = absurd (let le = leb-true a m e in let none : ⊥ = omega (arith, le, lt) in none)
+    below false e = e
+
+plain_by : (timers : Timers) (m : ℕ) (ss : List Session) (last older : Option ℕ) (still : Bool) (k : ℕ) → newest_usable ss ≡ last → keyed_before ss last ≡ older →
+    in_transition timers m ss ≡ still → IsOneOf (usable_of last older still) k → IsUsable timers m ss k
+unfolding newest_usable
+plain_by timers m ss None older still k newest before window one = elim one [ ]
+plain_by timers m ss (Some l) (Some o) true k newest before window (inl e) = IsLast (subst (IsLastWithKeys ss) (sym e) (last_is ss l newest))
+plain_by timers m ss (Some l) (Some o) true k newest before window (inr (inl e)) =
+    let last = last_is ss l newest in
+    IsOneBefore l last (subst (IsLastWithKeys (take l ss)) (sym e) (last_is (take l ss) o before))
+    (in_window (last.session.began + 1000 * timers.tran) m (sym (window_open timers m l ss last.session newest last.there) ∙ window))
+plain_by timers m ss (Some l) (Some o) true k newest before window (inr (inr e)) = elim e [ ]
+plain_by timers m ss (Some l) (Some o) false k newest before window (inl e) = IsLast (subst (IsLastWithKeys ss) (sym e) (last_is ss l newest))
+plain_by timers m ss (Some l) (Some o) false k newest before window (inr e) = elim e [ ]
+plain_by timers m ss (Some l) None still k newest before window (inl e) = IsLast (subst (IsLastWithKeys ss) (sym e) (last_is ss l newest))
+plain_by timers m ss (Some l) None still k newest before window (inr e) = elim e [ ]
+
+-- what may be used is the last with keys, or the one before it within the window
+pub usable_plain : (timers : Timers) (m : ℕ) (ss : List Session) (k : ℕ) → IsOneOf (usable timers m ss) k → IsUsable timers m ss k
+unfolding usable retiring
+usable_plain timers m ss k one = plain_by timers m ss (newest_usable ss) (keyed_before ss (newest_usable ss)) (in_transition timers m ss) k refl refl refl one
+
+first_one : (l k : ℕ) (older : Option ℕ) (still : Bool) → k ≡ l → IsOneOf (usable_of (Some l) older still) k
+first_one l k None still e = inl e
+first_one l k (Some o) true e = inl e
+first_one l k (Some o) false e = inl e
+
+-- and each such session may be used
+pub usable_from : (timers : Timers) (m : ℕ) (ss : List Session) (k : ℕ) → IsUsable timers m ss k → IsOneOf (usable timers m ss) k
+unfolding usable retiring newest_usable
+usable_from timers m ss k (IsLast last) =
+    subst (λ (newest : Option ℕ). IsOneOf (usable_of newest (keyed_before ss newest) (in_transition timers m ss)) k) (sym (last_from ss k last))
+    (first_one k k (keyed_before ss (Some k)) (in_transition timers m ss) refl)
+usable_from timers m ss k (IsOneBefore l last before lt) =
+    let newest : newest_usable ss ≡ Some l = last_from ss l last in
+    let window : in_transition timers m ss ≡ true
+    = window_open timers m l ss last.session newest last.there ∙ window_from (last.session.began + 1000 * timers.tran) m lt in
+    subst (λ (newest : Option ℕ). IsOneOf (usable_of newest (keyed_before ss newest) (in_transition timers m ss)) k) (sym newest)
+    (subst (λ (older : Option ℕ). IsOneOf (usable_of (Some l) older (in_transition timers m ss)) k) (sym (last_from (take l ss) k before))
+    (subst (λ (still : Bool). IsOneOf (usable_of (Some l) (Some k) still) k) (sym window) (inr (inl refl))))
 
 -- ---- what a fresh packet tells
 

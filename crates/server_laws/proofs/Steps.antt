@@ -30,7 +30,7 @@ use Rattle.server_table.specs.ControlDatagrams.{control_arrived}
 use Rattle.server_table.specs.DataDatagrams.{FromWire, accepted, carried, data_at, data_came, data_for, moved, opened_as, refused, with_opened}
 use Rattle.server_table.specs.Sound.{AtMostOne, IsSound}
 use Rattle.server_table.specs.Step.{came, course_begun, course_of, datagram_as, is_over, moment_of, step, step_if}
-use Rattle.server_laws.specs.Accepted.{Accepts, IsAccepted, IsOneOf}
+use Rattle.server_laws.specs.Accepted.{Accepts, IsAccepted, IsUsable}
 use Rattle.server_laws.specs.HandedOn.{Brings, BringsNone, BringsOne, DoesLast, GoesOn, IsDealtWith, IsHandedOn, IsQueued, IsReported, IsSealed, carrying, sealed_by, sealed_in}
 use Rattle.server_laws.specs.WellKept.{IsWellKept}
 use Rattle.server_laws.proofs.Places.{first_is, get_changed, none_passes, some_same}
@@ -39,7 +39,7 @@ use Rattle.server_laws.proofs.ClosedSteps.{accepted_kept, arrived_kept, carried_
 use Rattle.server_laws.proofs.Dealing.{IsAbout, carried_dealt, moved_about}
 use Rattle.server_laws.proofs.Ids.{HasAccepted, all_same, has_still, now_accepted, since_closed, since_deals}
 use Rattle.server_laws.proofs.KeptTables.{Good, good_closed}
-use Rattle.server_laws.proofs.Opening.{OpenedAs, answer_tells, opened_answers, usable_found, usable_is}
+use Rattle.server_laws.proofs.Opening.{OpenedAs, answer_tells, opened_answers, usable_found, usable_from, usable_is, usable_plain}
 use Rattle.server_laws.proofs.Quiet.{IsQuietly, asides_quiet, carrying_append, carrying_more, is_empty, quiet_closed}
 use Rattle.server_laws.proofs.Rows.{at_changed, until_later}
 use Rattle.server_laws.proofs.Verdicts.{owned_to_client, owned_to_device}
@@ -164,7 +164,8 @@ module _ (t : Table) (event : Event) (kept : IsWellKept t) (goes : is_over t ≡
         peer_id = peer;
         session = o.session;
         session_there = o.there;
-        is_usable = subst (λ (timers : Timers). IsOneOf (usable timers (moment_of t event) x.session.sessions) o.number) client.timers u.0;
+        is_usable = subst (λ (timers : Timers). IsUsable timers (moment_of t event) x.session.sessions o.number) client.timers
+            (usable_plain x.session.timers (moment_of t event) x.session.sessions o.number u.0);
         key_id = u.1;
         keys = o.keys;
         has_keys = o.has;
@@ -236,7 +237,8 @@ opened_from t m bytes n k id inner sound kept a =
     let there = (here_at t n a.client a.client_here).there in
     let client = kept.clients n a.client there in
     let role = client.role in
-    let one = subst (λ (timers : Timers). IsOneOf (usable timers m a.client.session.sessions) k) (sym client.timers) a.is_usable in
+    let one = usable_from a.client.session.timers m a.client.session.sessions k
+    (subst (λ (timers : Timers). IsUsable timers m a.client.session.sessions k) (sym client.timers) a.is_usable) in
     record {
       number = k;
       session = a.session;

@@ -15,14 +15,14 @@ use Rattle.route_table.specs.Owner.{owner}
 use Rattle.inner_verdict.specs.declared.Verdict.{Verdict}
 use Rattle.inner_verdict.specs.declared.Verdict.TheVariants as verdicts
 use Rattle.inner_verdict.specs.Verdict.{verdict}
-use Rattle.peer_table.specs.KeySessions.{Keys, Session, keys_of, kid_of, newest_usable}
+use Rattle.peer_table.specs.KeySessions.{Keys, Session, keys_of, kid_of}
 use Rattle.peer_table.specs.DataPackets.{sealed_under}
 use Rattle.server_table.specs.Table.{Client, Table}
 use Rattle.server_table.specs.Lookups.{cid, client_here}
 use Rattle.server_table.specs.Courses.{Course, outs}
 use Rattle.server_table.specs.InnerPackets.{most_queued}
 use Rattle.server_table.specs.DataDatagrams.{ping}
-use Rattle.server_laws.specs.Accepted.{Accepts}
+use Rattle.server_laws.specs.Accepted.{Accepts, IsLastWithKeys}
 
 -- ---- the verdict
 
@@ -73,13 +73,13 @@ sealed_by number None = 0
 sealed_by number (Some x) = sealed_in (slice_get x.session.sessions number)
 
 -- The effect sends a packet to the client of this number, and to nobody else. As the step leaves the client, it is the data packet of this
--- inner packet under the client's newest usable keys, which name its peer id, and its id is the last one that was sealed under them, which is the next one behind that
--- which the step found.
+-- inner packet under the client's newest keys, which name its peer id, and its id is the last one that was sealed under them, which is the next one
+-- behind that which the step found.
 pub record IsSealedTo (before later : Table) (n : ℕ) (inner : List ℕ) (action : Action) : Type 0 where
   pub client : Client
   pub client_here : client_here later n ≡ Some client
   pub number : ℕ
-  pub is_newest : newest_usable client.session.sessions ≡ Some number
+  pub is_newest : IsLastWithKeys client.session.sessions number
   pub session : Session
   pub session_there : slice_get client.session.sessions number ≡ Some session
   pub keys : Keys
@@ -97,12 +97,12 @@ pub data IsHandedOn (t : Table) (from : Option ℕ) (inner : List ℕ) (c : Cour
 
 -- ---- why it goes nowhere
 
--- as the step leaves the client of this number, which is here, the last packet id was used under its newest usable keys
+-- as the step leaves the client of this number, which is here, the last packet id was used under its newest keys
 pub record IsKeySpent (later : Table) (n : ℕ) : Type 0 where
   pub client : Client
   pub client_here : client_here later n ≡ Some client
   pub number : ℕ
-  pub is_newest : newest_usable client.session.sessions ≡ Some number
+  pub is_newest : IsLastWithKeys client.session.sessions number
   pub session : Session
   pub session_there : slice_get client.session.sessions number ≡ Some session
   pub is_spent : session.sealed ≡ 2 ^ 32 - 1
