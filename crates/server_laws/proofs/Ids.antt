@@ -12,7 +12,7 @@ use Rattle.server_table.specs.ControlDatagrams.{client_begun, session_begun}
 use Rattle.server_table.specs.Endings.{gone}
 use Rattle.server_table.specs.Establishing.{with_address}
 use Rattle.server_laws.proofs.Places.{get_appended, some_same, went_changed}
-use Rattle.server_laws.proofs.Peers.{AreKept, all_closed_kept, kept_same, kept_then, peer_same}
+use Rattle.server_laws.proofs.Peers.{AreKept, KeysFrom, from_same, from_then, all_closed_kept, kept_same, kept_then, peer_same}
 use Rattle.server_laws.proofs.Closed.{DealsWith, IsClosed, at_place, here_at}
 use Rattle.server_laws.proofs.Everything.{seals_all}
 
@@ -21,14 +21,15 @@ pub record IsKeptClient (later : List Client) (n : ℕ) (x : Client) : Type 0 wh
   pub client : Client
   pub there : slice_get later n ≡ Some client
   pub kept : AreKept x.session.sessions client.session.sessions
+  pub stay : KeysFrom client.session.sessions x.session.sessions
 
 abbrev pub AllKept : List Client → List Client → Type 0
 AllKept clients later = (n : ℕ) (x : Client) → slice_get clients n ≡ Some x → IsKeptClient later n x
 
 pub all_same : (clients : List Client) → AllKept clients clients
-all_same clients n x there = record { client = x; there = there; kept = kept_same x.session.sessions }
+all_same clients n x there = record { client = x; there = there; kept = kept_same x.session.sessions; stay = from_same x.session.sessions }
 
-changed_ids : (n : ℕ) (f : Client → Client) (clients later : List Client) → ((y : Client) → slice_get later n ≡ Some y → AreKept y.session.sessions (f y).session.sessions) →
+changed_ids : (n : ℕ) (f : Client → Client) (clients later : List Client) → ((y : Client) → slice_get later n ≡ Some y → AreKept y.session.sessions (f y).session.sessions × KeysFrom (f y).session.sessions y.session.sessions) →
     AllKept clients later → AllKept clients (changed_at n f later)
 changed_ids n f clients later keeps kept i x there = let w = kept i x there in go w (went_changed n i f later w.client w.there)
   where
@@ -39,13 +40,14 @@ changed_ids n f clients later keeps kept i x there = let w = kept i x there in g
         record {
           client = f w.client;
           there = e.1;
-          kept = kept_then x.session.sessions w.client.session.sessions (f w.client).session.sessions w.kept (keeps w.client at);
+          kept = kept_then x.session.sessions w.client.session.sessions (f w.client).session.sessions w.kept (keeps w.client at).0;
+          stay = from_then (f w.client).session.sessions w.client.session.sessions x.session.sessions (keeps w.client at).1 w.stay;
         }
-    go w (inr e) = record { client = w.client; there = e; kept = w.kept }
+    go w (inr e) = record { client = w.client; there = e; kept = w.kept; stay = w.stay }
 
 appended_ids : (clients later : List Client) (x : Client) → AllKept clients later → AllKept clients (later ++ x ∷ [])
 appended_ids clients later x kept i y there =
-    let w = kept i y there in record { client = w.client; there = get_appended later x i w.client w.there; kept = w.kept }
+    let w = kept i y there in record { client = w.client; there = get_appended later x i w.client w.there; kept = w.kept; stay = w.stay }
 
 -- since these clients, in a course
 abbrev pub KeptSince : List Client → Course → Type 0
@@ -57,14 +59,14 @@ since_closed clients = record {
   other = λ went counted into outof stopped c is. is;
   acts = λ n x o c here peer is.
       changed_ids n (λ y. record y { session = o.peer }) clients c.table.clients
-      (at_place (λ y. AreKept y.session.sessions o.peer.sessions) c.table.clients n x (here_at c.table n x here).there peer.ids) is;
+      (at_place (λ y. AreKept y.session.sessions o.peer.sessions × KeysFrom o.peer.sessions y.session.sessions) c.table.clients n x (here_at c.table n x here).there (peer.ids, peer.stay)) is;
   exchanges = λ n x ccd o c here known ex is.
       changed_ids n (λ y. record y { session = o.peer }) clients c.table.clients
-      (at_place (λ y. AreKept y.session.sessions o.peer.sessions) c.table.clients n x (here_at c.table n x here).there ex.ids) is;
-  alters = λ n f c keeps is. changed_ids n f clients c.table.clients (λ y there. (keeps y there).session.ids) is;
-  ends = λ n cause x c here is. changed_ids n gone clients c.table.clients (λ y there. (all_closed_kept y.session (peer_same y.session)).ids) is;
+      (at_place (λ y. AreKept y.session.sessions o.peer.sessions × KeysFrom o.peer.sessions y.session.sessions) c.table.clients n x (here_at c.table n x here).there (ex.ids, ex.stay)) is;
+  alters = λ n f c keeps is. changed_ids n f clients c.table.clients (λ y there. ((keeps y there).session.ids, (keeps y there).session.stay)) is;
+  ends = λ n cause x c here is. changed_ids n gone clients c.table.clients (λ y there. let p = all_closed_kept y.session (peer_same y.session) in (p.ids, p.stay)) is;
   establishes = λ n conn x l c here ready is.
-      changed_ids n (with_address l.0 c.table.moment) clients c.table.clients (λ y there. kept_same y.session.sessions) is;
+      changed_ids n (with_address l.0 c.table.moment) clients c.table.clients (λ y there. (kept_same y.session.sessions, from_same y.session.sessions)) is;
   admits = λ from draw c is. appended_ids clients c.table.clients (client_begun c.table from (session_begun c.table draw).peer) is;
 }
 

@@ -1,5 +1,5 @@
 -- What each call of a client's session keeps of its key sessions: every id that was accepted, and the keys.
-use Rattle.std.proofs.Common.{◌≡◌, ℕ, zero, suc, ◌+◌, ◌==◌, Bool, true, false, List, [], ◌∷◌, ◌++◌, length, map, Option, Some, None, is_some, refl, sym, ap, ◌∙◌, subst, inl, inr}
+use Rattle.std.proofs.Common.{◌≤◌, le_of_eq, le_trans, arith, ◌≡◌, ℕ, zero, suc, ◌+◌, ◌==◌, Bool, true, false, List, [], ◌∷◌, ◌++◌, length, map, Option, Some, None, is_some, refl, sym, ap, ◌∙◌, subst, inl, inr}
 use Rattle.std.specs.Prelude.{◌⊎◌, ◌||◌, slice_get, if◌then◌else◌}
 use Rattle.std.specs.List.{list_any}
 use Rattle.std.specs.Str.{bytes_eq}
@@ -31,7 +31,7 @@ use Rattle.peer_table.specs.Places.{changed_at}
 use Rattle.peer_table.specs.KeySessions.{Keyed, Keys, Named, Opening, Session, Stage, closed, has_keys, is_keyed, keys_of, kid_of, live_with, newest, newest_session, newest_usable, session_at, session_begun, usable_with}
 use Rattle.peer_table.specs.Peer.{Opens, Outcome, Peer, answered, gone_on, other, ready_sent_in, remote_of}
 use Rattle.peer_table.specs.ControlPackets.{Incoming, begins_next, begun_by, control_came, judged, kid_in, most_in_order, next_session, placed, sender, taken_by, with_next}
-use Rattle.peer_table.specs.EngineAnswers.{answer_in, answer_on, conn_in, engine_came, judged_at, kept_name, message_of, name_at, name_came, name_given, name_in, plain_came, prepared_message, session_on, text_came, text_said, with_named}
+use Rattle.peer_table.specs.EngineAnswers.{answer_in, answer_on, conn_in, engine_came, judged_at, kept_name, message_in, message_of, name_at, name_came, name_given, name_in, plain_came, prepared_message, session_on, text_came, text_said, with_named}
 use Rattle.peer_table.specs.Exchange.{after_message, after_message_in, block_of, chosen, exchanged, exchanged_from, exchanged_with, message_read, server_source, session_closed, waiting_in}
 use Rattle.peer_table.specs.DataPackets as packets
 use Rattle.peer_table.specs.DataPackets.{data_came, ids_are_spent, opened_as, opened_by, opened_in, opened_judged, opened_under, sealed_by, sealed_in, sealed_to}
@@ -93,41 +93,43 @@ pub record IsKeptAt (later : List Session) (k : ℕ) (s : Session) : Type 0 wher
   pub session : Session
   pub there : slice_get later k ≡ Some session
   pub ids : (id : ℕ) → was_accepted s.received.accepted id ≡ true → was_accepted session.received.accepted id ≡ true
+  pub sealed : s.sealed ≤ session.sealed
 
 abbrev pub AreKept : List Session → List Session → Type 0
 AreKept sessions later = (k : ℕ) (s : Session) → slice_get sessions k ≡ Some s → IsKeptAt later k s
 
 pub kept_same : (sessions : List Session) → AreKept sessions sessions
-kept_same sessions k s there = record { session = s; there = there; ids = λ id is. is }
+kept_same sessions k s there = record { session = s; there = there; ids = λ id is. is; sealed = le_of_eq refl }
 
 pub kept_then : (sessions between later : List Session) → AreKept sessions between → AreKept between later → AreKept sessions later
 kept_then sessions between later first second k s there =
     let a = first k s there in
     let b = second k a.session a.there in
-    record { session = b.session; there = b.there; ids = λ id is. b.ids id (a.ids id is) }
+    record { session = b.session; there = b.there; ids = λ id is. b.ids id (a.ids id is); sealed = le_trans a.sealed b.sealed }
 
 -- a change of a session that keeps its ids
 abbrev KeepsIds : (Session → Session) → Session → Type 0
 KeepsIds g s = (id : ℕ) → was_accepted s.received.accepted id ≡ true → was_accepted (g s).received.accepted id ≡ true
 
-changed_kept : (n : ℕ) (g : Session → Session) (sessions later : List Session) → ((s : Session) → KeepsIds g s) → AreKept sessions later →
+changed_kept : (n : ℕ) (g : Session → Session) (sessions later : List Session) → ((s : Session) → KeepsIds g s) → ((s : Session) → s.sealed ≤ (g s).sealed) → AreKept sessions later →
     AreKept sessions (changed_at n g later)
-changed_kept n g sessions later keeps kept k s there = let w = kept k s there in go w (went_changed n k g later w.session w.there)
+changed_kept n g sessions later keeps rises kept k s there = let w = kept k s there in go w (went_changed n k g later w.session w.there)
   where
     go : (w : IsKeptAt later k s) → ((k ≡ n) × (slice_get (changed_at n g later) k ≡ Some (g w.session))) ⊎ (slice_get (changed_at n g later) k ≡ Some w.session) →
         IsKeptAt (changed_at n g later) k s
-    go w (inl e) = record { session = g w.session; there = e.1; ids = λ id is. keeps w.session id (w.ids id is) }
-    go w (inr e) = record { session = w.session; there = e; ids = w.ids }
+    go w (inl e) = record { session = g w.session; there = e.1; ids = λ id is. keeps w.session id (w.ids id is); sealed = le_trans w.sealed (rises w.session) }
+    go w (inr e) = record { session = w.session; there = e; ids = w.ids; sealed = w.sealed }
 
 appended_kept : (sessions later : List Session) (s : Session) → AreKept sessions later → AreKept sessions (later ++ s ∷ [])
 appended_kept sessions later s kept k x there =
-    let w = kept k x there in record { session = w.session; there = get_appended later s k w.session w.there; ids = w.ids }
+    let w = kept k x there in record { session = w.session; there = get_appended later s k w.session w.there; ids = w.ids; sealed = w.sealed }
 
 closed_kept : (later : List Session) → AreKept later (map closed later)
 closed_kept [] k s there = absurd (none_some there)
 closed_kept (x ∷ later) zero s there =
-    record { session = closed s; there = ap (λ (y : Session). Some (closed y)) (some_same there); ids = λ id is. is }
-closed_kept (x ∷ later) (suc k) s there = let w = closed_kept later k s there in record { session = w.session; there = w.there; ids = w.ids }
+    record { session = closed s; there = ap (λ (y : Session). Some (closed y)) (some_same there); ids = λ id is. is; sealed = le_of_eq refl }
+closed_kept (x ∷ later) (suc k) s there =
+    let w = closed_kept later k s there in record { session = w.session; there = w.there; ids = w.ids; sealed = w.sealed }
 
 -- ---- whose keys they are
 
@@ -141,10 +143,10 @@ pub record HadKeys (sessions : List Session) (k : ℕ) (keys : Keys) : Type 0 wh
 abbrev pub KeysFrom : List Session → List Session → Type 0
 KeysFrom sessions later = (k : ℕ) (s : Session) (keys : Keys) → slice_get later k ≡ Some s → keys_of s.stage ≡ Some keys → HadKeys sessions k keys
 
-from_same : (sessions : List Session) → KeysFrom sessions sessions
+pub from_same : (sessions : List Session) → KeysFrom sessions sessions
 from_same sessions k s keys there has = record { session = s; there = there; has = has }
 
-from_then : (sessions between later : List Session) → KeysFrom sessions between → KeysFrom between later → KeysFrom sessions later
+pub from_then : (sessions between later : List Session) → KeysFrom sessions between → KeysFrom between later → KeysFrom sessions later
 from_then sessions between later first second k s keys there has = let b = second k s keys there has in first k b.session keys b.there b.has
 
 had_changed : (n : ℕ) (g : Session → Session) (later : List Session) → ((s : Session) → slice_get later n ≡ Some s → keys_of (g s).stage ≡ keys_of s.stage) →
@@ -171,6 +173,23 @@ had_closed [] k s keys there has = absurd (none_some there)
 had_closed (x ∷ later) zero s keys there has = record { session = x; there = refl; has = ap (λ (y : Session). keys_of y.stage) (some_same there) ∙ has }
 had_closed (x ∷ later) (suc k) s keys there has = let h = had_closed later k s keys there has in record { session = h.session; there = h.there; has = h.has }
 
+-- and keys stay
+stay_changed : (n : ℕ) (g : Session → Session) (later : List Session) → ((s : Session) → slice_get later n ≡ Some s → keys_of (g s).stage ≡ keys_of s.stage) →
+    KeysFrom (changed_at n g later) later
+stay_changed n g later same k s keys there has = go (went_changed n k g later s there)
+  where
+    go : ((k ≡ n) × (slice_get (changed_at n g later) k ≡ Some (g s))) ⊎ (slice_get (changed_at n g later) k ≡ Some s) → HadKeys (changed_at n g later) k keys
+    go (inl e) = record { session = g s; there = e.1; has = same s (subst (λ (i : ℕ). slice_get later i ≡ Some s) e.0 there) ∙ has }
+    go (inr e) = record { session = s; there = e; has = has }
+
+stay_appended : (later : List Session) (x : Session) → KeysFrom (later ++ x ∷ []) later
+stay_appended later x k s keys there has = record { session = s; there = get_appended later x k s there; has = has }
+
+stay_closed : (later : List Session) → KeysFrom (map closed later) later
+stay_closed [] k s keys there has = absurd (none_some there)
+stay_closed (x ∷ later) zero s keys there has = record { session = closed s; there = ap (λ (y : Session). Some (closed y)) (some_same there); has = has }
+stay_closed (x ∷ later) (suc k) s keys there has = let h = stay_closed later k s keys there has in record { session = h.session; there = h.there; has = h.has }
+
 -- ---- what a call keeps
 
 -- keys name this peer id, or were there
@@ -187,6 +206,7 @@ pub record PeerKeptParts (p : Peer) (role : Role) (timers : Timers) (asks : Bool
   pub keys : HaveKeys p.sessions → HaveKeys sessions
   pub no_keys : HaveKeys sessions → HaveKeys p.sessions
   pub from : KeysFrom p.sessions sessions
+  pub stay : KeysFrom sessions p.sessions
 
 abbrev pub PeerKept : Peer → Peer → Type 0
 PeerKept p q = PeerKeptParts p q.role q.timers q.asks_push q.sessions
@@ -196,6 +216,7 @@ pub record PeerExchanged (peer_id : ℕ) (p q : Peer) : Type 0 where
   pub role_same : q.role ≡ p.role
   pub timers_same : q.timers ≡ p.timers
   pub from : NamedOrFrom peer_id p.sessions q.sessions
+  pub stay : KeysFrom q.sessions p.sessions
   pub asks : q.asks_push ≡ true → (p.asks_push ≡ true) ⊎ HaveKeys q.sessions
   pub ids : AreKept p.sessions q.sessions
   pub keys : HaveKeys p.sessions → HaveKeys q.sessions
@@ -209,6 +230,7 @@ peer_same p = record {
   keys = λ is. is;
   no_keys = λ is. is;
   from = from_same p.sessions;
+  stay = from_same p.sessions;
 }
 
 -- whether a stage has keys is told by the keys that it has
@@ -221,21 +243,22 @@ keyed_same : (g : Session → Session) (s : Session) → keys_of (g s).stage ≡
 keyed_same g s same = keyed_by (g s).stage ∙ ap (λ (k : Option Keys). is_some k) same ∙ sym (keyed_by s.stage)
 
 changed_peer : {p : Peer} {role : Role} {timers : Timers} {asks : Bool} (n : ℕ) (g : Session → Session) (sessions : List Session) →
-    ((s : Session) → slice_get sessions n ≡ Some s → keys_of (g s).stage ≡ keys_of s.stage) → ((s : Session) → KeepsIds g s) →
+    ((s : Session) → slice_get sessions n ≡ Some s → keys_of (g s).stage ≡ keys_of s.stage) → ((s : Session) → KeepsIds g s) → ((s : Session) → s.sealed ≤ (g s).sealed) →
     PeerKeptParts p role timers asks sessions → PeerKeptParts p role timers asks (changed_at n g sessions)
-changed_peer {p = p} n g sessions same keeps is = record {
+changed_peer {p = p} n g sessions same keeps rises is = record {
   role_same = is.role_same;
   timers_same = is.timers_same;
   asks_same = is.asks_same;
-  ids = changed_kept n g p.sessions sessions keeps is.ids;
+  ids = changed_kept n g p.sessions sessions keeps rises is.ids;
   keys = λ e. keys_forward n g sessions (λ s there k. keyed_same g s (same s there) ∙ k) (is.keys e);
   no_keys = λ e. is.no_keys (keys_back n g sessions (λ s there k. sym (keyed_same g s (same s there)) ∙ k) e);
   from = from_then p.sessions sessions (changed_at n g sessions) is.from (had_changed n g sessions same);
+  stay = from_then (changed_at n g sessions) sessions p.sessions (stay_changed n g sessions same) is.stay;
 }
 
 linked : {p : Peer} {role : Role} {timers : Timers} {asks : Bool} (n : ℕ) (l : Link) (sessions : List Session) → PeerKeptParts p role timers asks sessions →
     PeerKeptParts p role timers asks (changed_at n (λ s. record s { link = l }) sessions)
-linked n l sessions is = changed_peer n (λ s. record s { link = l }) sessions (λ s there. refl) (λ s id e. e) is
+linked n l sessions is = changed_peer n (λ s. record s { link = l }) sessions (λ s there. refl) (λ s id e. e) (λ s. le_of_eq refl) is
 
 module _ {p : Peer} where
   gone_on_kept : (n : ℕ) (o : link.Outcome) (c : Outcome Turn) → PeerKept p c.peer → PeerKept p (gone_on n o c).peer
@@ -256,6 +279,7 @@ module _ {p : Peer} where
         timers_same = is.timers_same;
         asks_same = is.asks_same;
         from = from_then p.sessions q.sessions (q.sessions ++ s ∷ []) is.from (had_appended q.sessions s refl);
+        stay = from_then (q.sessions ++ s ∷ []) q.sessions p.sessions (stay_appended q.sessions s) is.stay;
         ids = appended_kept p.sessions q.sessions s is.ids;
         keys = λ e. keys_appended q.sessions s (is.keys e);
         no_keys = λ e. is.no_keys (none_appended q.sessions s refl e);
@@ -293,13 +317,13 @@ module _ {p : Peer} where
 
   plain_kept : (n : ℕ) (bytes : List ℕ) (q : Peer) → PeerKept p q → PeerKept p (plain_came n bytes q).peer
   unfolding plain_came
-  plain_kept n bytes q is = changed_peer n (λ s. record s { plain = s.plain ++ bytes }) q.sessions (λ s there. refl) (λ s id e. e) is
+  plain_kept n bytes q is = changed_peer n (λ s. record s { plain = s.plain ++ bytes }) q.sessions (λ s there. refl) (λ s id e. e) (λ s. le_of_eq refl) is
 
   -- a session whose stage is that of a beginning has no keys to lose
   named_kept : (n : ℕ) (q : Peer) (s : Session) → slice_get q.sessions n ≡ Some s → s.stage ≡ Opening → PeerKept p q → PeerKept p (with_named n q)
   named_kept n q s here opening is =
       changed_peer n (λ s. record s { stage = Named }) q.sessions
-      (λ t there. sym (ap keys_of (ap (λ (x : Session). x.stage) (some_same (sym there ∙ here)) ∙ opening))) (λ s id e. e) is
+      (λ t there. sym (ap keys_of (ap (λ (x : Session). x.stage) (some_same (sym there ∙ here)) ∙ opening))) (λ s id e. e) (λ s. le_of_eq refl) is
 
   same_name : (n : ℕ) (q : Peer) (b : Bool) → PeerKept p (with_named n q) → PeerKept p q →
       PeerKept p (if b then judged_at n false (with_named n q) else answered q (Over NameChanged)).peer
@@ -355,14 +379,14 @@ module _ {p : Peer} where
 
   message_in_kept : (n : Option ℕ) (q : Peer) → PeerKept p q → PeerKept p (after_message_in n q)
   message_in_kept None q is = is
-  message_in_kept (Some n) q is = changed_peer n message_read q.sessions (λ s there. refl) (λ s id e. e) is
+  message_in_kept (Some n) q is = changed_peer n message_read q.sessions (λ s there. refl) (λ s id e. e) (λ s. le_of_eq refl) is
 
   pub message_kept : (q : Peer) → PeerKept p q → PeerKept p (after_message q)
   unfolding after_message
   message_kept q is = message_in_kept (waiting_in q) q is
 
   sealed_by_kept : (q : Peer) (inner : List ℕ) (n : ℕ) (s : Session) (k : Option Keys) (spent : Bool) → PeerKept p q → PeerKept p (sealed_by q inner n s k spent).peer
-  sealed_by_kept q inner n s (Some k) false is = changed_peer n (λ s. record s { sealed = s.sealed + 1 }) q.sessions (λ s there. refl) (λ s id e. e) is
+  sealed_by_kept q inner n s (Some k) false is = changed_peer n (λ s. record s { sealed = s.sealed + 1 }) q.sessions (λ s there. refl) (λ s id e. e) (λ s. omega arith) is
   sealed_by_kept q inner n s (Some k) true is = is
   sealed_by_kept q inner n s None spent is = is
 
@@ -385,7 +409,7 @@ module _ {p : Peer} where
   received_kept : (q : Peer) (n id : ℕ) (m : Moment) → PeerKept p q → PeerKept p (packets.with_received n id m q)
   received_kept q n id m is =
       changed_peer n (λ s. record s { received = recorded s.received id m }) q.sessions (λ s there. refl)
-      (λ s other e. still_accepted s.received.accepted other ((id, m) ∷ []) e) is
+      (λ s other e. still_accepted s.received.accepted other ((id, m) ∷ []) e) (λ s. le_of_eq refl) is
 
   opened_judged_kept : (q : Peer) (n : ℕ) (s : Session) (m : Moment) (id : ℕ) (inner : List ℕ) (f : Freshness) → PeerKept p q → PeerKept p (opened_judged q n s m id inner f).peer
   opened_judged_kept q n s m id inner Fresh is = received_kept q n id m is
@@ -426,7 +450,7 @@ module _ {p : Peer} where
 
   closed_at_kept : (n : Option ℕ) (c : Outcome Turn) → PeerKept p c.peer → PeerKept p (session_closed n c).peer
   closed_at_kept None c is = is
-  closed_at_kept (Some n) c is = changed_peer n closed c.peer.sessions (λ s there. refl) (λ s id e. e) is
+  closed_at_kept (Some n) c is = changed_peer n closed c.peer.sessions (λ s there. refl) (λ s id e. e) (λ s. le_of_eq refl) is
 
   ready_in_kept : (n now : ℕ) (c : Outcome Turn) (s : Option Session) → PeerKept p c.peer → PeerKept p (ready_sent_in n now c s).peer
   ready_in_kept n now c None is = is
@@ -461,6 +485,7 @@ module _ {p : Peer} where
     timers_same = is.timers_same;
     asks_same = is.asks_same;
     from = from_then p.sessions q.sessions (map closed q.sessions) is.from (had_closed q.sessions);
+    stay = from_then (map closed q.sessions) q.sessions p.sessions (stay_closed q.sessions) is.stay;
     ids = kept_then p.sessions q.sessions (map closed q.sessions) is.ids (closed_kept q.sessions);
     keys = λ e. keys_closed q.sessions ∙ is.keys e;
     no_keys = λ e. is.no_keys (sym (keys_closed q.sessions) ∙ e);
@@ -469,22 +494,32 @@ module _ {p : Peer} where
 -- ---- the key exchange
 
 exchanged_same : (peer_id : ℕ) (p : Peer) → PeerExchanged peer_id p p
-exchanged_same peer_id p = record { role_same = refl; timers_same = refl; from = λ k s keys there has. inr (from_same p.sessions k s keys there has); asks = λ e. inl e; ids = kept_same p.sessions; keys = λ e. e }
+exchanged_same peer_id p = record {
+  role_same = refl;
+  timers_same = refl;
+  from = λ k s keys there has. inr (from_same p.sessions k s keys there has);
+  stay = from_same p.sessions;
+  asks = λ e. inl e;
+  ids = kept_same p.sessions;
+  keys = λ e. e;
+}
 
 named_then : (peer_id : ℕ) (sessions between later : List Session) → NamedOrFrom peer_id sessions between → KeysFrom between later → NamedOrFrom peer_id sessions later
 named_then peer_id sessions between later first second k s keys there has = let b = second k s keys there has in first k b.session keys b.there b.has
 
 closed_exchanged : (peer_id : ℕ) (p : Peer) (n : Option ℕ) (c : Outcome Turn) → HaveKeys c.peer.sessions → c.peer.role ≡ p.role → c.peer.timers ≡ p.timers →
-    NamedOrFrom peer_id p.sessions c.peer.sessions → AreKept p.sessions c.peer.sessions → PeerExchanged peer_id p (session_closed n c).peer
-closed_exchanged peer_id p None c is role timers from ids = record { role_same = role; timers_same = timers; from = from; asks = λ e. inr is; ids = ids; keys = λ e. is }
-closed_exchanged peer_id p (Some n) c is role timers from ids =
+    NamedOrFrom peer_id p.sessions c.peer.sessions → KeysFrom c.peer.sessions p.sessions → AreKept p.sessions c.peer.sessions → PeerExchanged peer_id p (session_closed n c).peer
+closed_exchanged peer_id p None c is role timers from stay ids =
+    record { role_same = role; timers_same = timers; from = from; stay = stay; asks = λ e. inr is; ids = ids; keys = λ e. is }
+closed_exchanged peer_id p (Some n) c is role timers from stay ids =
     let have : HaveKeys (changed_at n closed c.peer.sessions) = keys_forward n closed c.peer.sessions (λ s there k. k) is in
     record {
       role_same = role;
       timers_same = timers;
       from = named_then peer_id p.sessions c.peer.sessions (changed_at n closed c.peer.sessions) from (had_changed n closed c.peer.sessions (λ s there. refl));
+      stay = from_then (changed_at n closed c.peer.sessions) c.peer.sessions p.sessions (stay_changed n closed c.peer.sessions (λ s there. refl)) stay;
       asks = λ e. inr have;
-      ids = changed_kept n closed p.sessions c.peer.sessions (λ s id e. e) ids;
+      ids = changed_kept n closed p.sessions c.peer.sessions (λ s id e. e) (λ s. le_of_eq refl) ids;
       keys = λ e. have;
     }
 
@@ -505,21 +540,37 @@ named_given n g ss given gives k s keys there has = go (got_changed n k g ss s t
         inl (ap (λ (k : Keys). k.peer_id) same)
     go (inr e) = inr (record { session = s; there = e; has = has })
 
-exchanged_with_kept : (peer_id : ℕ) (p : Peer) (own : Source) (m : Km2) (used : ℕ) (cipher : Option Cipher) (s : Session) → newest_session p.sessions ≡ Some s →
+-- a session without keys gets some, and all others keep theirs
+stay_given : (n : ℕ) (g : Session → Session) (ss : List Session) (s : Session) → slice_get ss n ≡ Some s → keys_of s.stage ≡ None → KeysFrom (changed_at n g ss) ss
+stay_given n g ss s there none k x keys at has = go (went_changed n k g ss x at)
+  where
+    go : ((k ≡ n) × (slice_get (changed_at n g ss) k ≡ Some (g x))) ⊎ (slice_get (changed_at n g ss) k ≡ Some x) → HadKeys (changed_at n g ss) k keys
+    go (inl e) =
+        let same : x ≡ s = some_same (sym (subst (λ (i : ℕ). slice_get ss i ≡ Some x) e.0 at) ∙ there) in
+        absurd (none_some (sym none ∙ ap (λ (y : Session). keys_of y.stage) (sym same) ∙ has))
+    go (inr e) = record { session = x; there = e; has = has }
+
+-- a session that is prepared has no keys yet
+not_keyed : (p : Peer) (s : Session) (stage : Stage) (m : Km2 × ℕ) → message_in p s stage ≡ Some m → keys_of stage ≡ None
+not_keyed p s Opening m e = refl
+not_keyed p s Named m e = refl
+not_keyed p s (Keyed keys) m e = absurd (none_some e)
+
+exchanged_with_kept : (peer_id : ℕ) (p : Peer) (own : Source) (m : Km2) (used : ℕ) (cipher : Option Cipher) (s : Session) → newest_session p.sessions ≡ Some s → keys_of s.stage ≡ None →
     PeerExchanged peer_id p (exchanged_with peer_id p own m used cipher).peer
-exchanged_with_kept peer_id p own m used None s there = exchanged_same peer_id p
-exchanged_with_kept peer_id p own m used (Some cipher) s there =
+exchanged_with_kept peer_id p own m used None s there none = exchanged_same peer_id p
+exchanged_with_kept peer_id p own m used (Some cipher) s there none =
     let given : Keys = record { block = block_of m.source own (remote_of p).0 p.envelope.own.0; cipher = cipher; peer_id = peer_id } in
     let g : Session → Session = λ s. record s { stage = Keyed given; read = used } in
     closed_exchanged peer_id p _ _ (keys_given (newest p.sessions) g p.sessions s there refl) refl refl
-    (named_given (newest p.sessions) g p.sessions given (λ s. refl))
-    (changed_kept (newest p.sessions) g p.sessions p.sessions (λ s id e. e) (kept_same p.sessions))
+    (named_given (newest p.sessions) g p.sessions given (λ s. refl)) (stay_given (newest p.sessions) g p.sessions s there none)
+    (changed_kept (newest p.sessions) g p.sessions p.sessions (λ s id e. e) (λ s. le_of_eq refl) (kept_same p.sessions))
 
 exchanged_from_kept : (policy : Policy) (peer_id : ℕ) (p : Peer) (own : Source) (m : Option (Km2 × ℕ)) (s : Option Session) → newest_session p.sessions ≡ s → message_of p s ≡ m →
     PeerExchanged peer_id p (exchanged_from policy peer_id p own m).peer
 exchanged_from_kept policy peer_id p own None s there is = exchanged_same peer_id p
 exchanged_from_kept policy peer_id p own (Some m) None there is = absurd (none_some is)
-exchanged_from_kept policy peer_id p own (Some m) (Some s) there is = exchanged_with_kept peer_id p own m.0 m.1 (chosen policy m.0.info) s there
+exchanged_from_kept policy peer_id p own (Some m) (Some s) there is = exchanged_with_kept peer_id p own m.0 m.1 (chosen policy m.0.info) s there (not_keyed p s s.stage m is)
 
 pub exchange_kept : (policy : Policy) (peer_id : ℕ) (draw : Draw) (p : Peer) → PeerExchanged peer_id p (exchanged policy peer_id draw p).peer
 unfolding exchanged prepared_message
