@@ -49,6 +49,17 @@ appended_ids : (clients later : List Client) (x : Client) → AllKept clients la
 appended_ids clients later x kept i y there =
     let w = kept i y there in record { client = w.client; there = get_appended later x i w.client w.there; kept = w.kept; stay = w.stay }
 
+pub all_then : (clients between later : List Client) → AllKept clients between → AllKept between later → AllKept clients later
+all_then clients between later first second n x there =
+    let a = first n x there in
+    let b = second n a.client a.there in
+    record {
+      client = b.client;
+      there = b.there;
+      kept = kept_then x.session.sessions a.client.session.sessions b.client.session.sessions a.kept b.kept;
+      stay = from_then b.client.session.sessions a.client.session.sessions x.session.sessions b.stay a.stay;
+    }
+
 -- since these clients, in a course
 abbrev pub KeptSince : List Client → Course → Type 0
 KeptSince clients c = AllKept clients c.table.clients

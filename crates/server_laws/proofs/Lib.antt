@@ -14,3 +14,4 @@ pub mod Ids
 pub mod Steps
 pub mod Queue
 pub mod Runs
+pub mod Sealings

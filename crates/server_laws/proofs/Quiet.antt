@@ -48,7 +48,7 @@ carrying_append (x ∷ xs) ys = append_step x (carrying (xs ++ ys)) (carrying xs
 pub carrying_more : (xs ys : List Action) → carrying ys ≡ [] → carrying (xs ++ ys) ≡ carrying xs
 carrying_more xs ys none = carrying_append xs ys ∙ ap (λ (more : List Action). carrying xs ++ more) none ∙ append-nil (carrying xs)
 
-actions_quiet : (role : Role) (doings : List Doing) → carrying (actions_of role doings) ≡ []
+pub actions_quiet : (role : Role) (doings : List Doing) → carrying (actions_of role doings) ≡ []
 actions_quiet role [] = refl
 actions_quiet role (Opens conn ∷ doings) = actions_quiet role doings
 actions_quiet role (Puts conn bytes ∷ doings) = actions_quiet role doings

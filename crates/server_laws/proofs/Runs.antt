@@ -117,7 +117,7 @@ step_since lacks t event =
     by_over (KeptSince t.clients) lacks t event (all_same t.clients)
     (λ goes. came_kept (since_closed t.clients) (since_deals t.clients) lacks event.draw event.kind (course_begun t event) (all_same t.clients))
 
-lacking_since : (t : Table) (event : Event) (lack : Lack) → AllKept t.clients (after_lacking t event lack).clients
+pub lacking_since : (t : Table) (event : Event) (lack : Lack) → AllKept t.clients (after_lacking t event lack).clients
 lacking_since t event LacksNothing = step_since false t event
 lacking_since t event LacksAll = all_same t.clients
 lacking_since t event LacksHost = step_since true t event

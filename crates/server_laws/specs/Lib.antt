@@ -2,3 +2,4 @@ pub mod Accepted
 pub mod HandedOn
 pub mod Waiting
 pub mod WellKept
+pub mod Sealings

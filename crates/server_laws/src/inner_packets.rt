@@ -1,6 +1,6 @@
 //! Laws about inner packets: from which datagram one comes, where it goes, and that none is lost.
 
-ghost use Rattle.std.specs.Prelude.{◌≡◌, ◌≢◌, ◌↔◌, ℕ, Bool, false, List, [], ◌∷◌, ◌++◌, Option, Some, None, Ok};
+ghost use Rattle.std.specs.Prelude.{◌≡◌, ◌≢◌, ◌↔◌, ◌<◌, ℕ, Bool, false, List, [], ◌∷◌, ◌++◌, Option, Some, None, Ok};
 ghost use Rattle.std.specs.List.{AllByRecursion, IsAmong};
 ghost use Rattle.vpn_base.specs.declared.address.Addr.{Addr};
 ghost use Rattle.vpn_base.specs.declared.names.Cid.{Cid};
@@ -11,6 +11,7 @@ ghost use Rattle.gcm_seal.specs.Gcm.{gcm};
 ghost use Rattle.sealed_packet.specs.SealedPacket.{Opens};
 ghost use Rattle.peer_table.specs.KeySessions.{Keys};
 ghost use Rattle.peer_table.specs.DataPackets.{cipher_key, half_of, implicit_bytes, opened_under};
+ghost use Rattle.vpn_links.specs.Actions.{Action};
 ghost use Rattle.vpn_links.specs.Steps.{LacksAll};
 ghost use Rattle.vpn_links.specs.declared.events.Event.{Event};
 ghost use Rattle.vpn_links.specs.declared.events.Kind.TheVariants.{Datagram, DeviceIn, Tick};
@@ -23,11 +24,12 @@ ghost use Rattle.inner_verdict.specs.declared.Verdict.TheVariants.{BadSource, No
 ghost use Rattle.server_table.specs.Table.{Table, table_begun};
 ghost use Rattle.server_table.specs.Lookups.{cid};
 ghost use Rattle.server_table.specs.DataDatagrams.{ping};
-ghost use Rattle.server_table.specs.Runs.{Entry, MayLack, MayRun, after_all};
+ghost use Rattle.server_table.specs.Runs.{Entry, MayLack, MayRun, after, after_all};
 ghost use Rattle.server_table.specs.Sealed.{OnlySealedOpen, SealedPacket};
 ghost use Rattle.server_table.specs.Step.{is_over, step};
 ghost use Rattle.server_laws.specs.Accepted.{Accepts};
 ghost use Rattle.server_laws.specs.HandedOn.{BringsOne, IsDealtWith, IsForward, IsQuiet, IsSealedPing, IsSentOn, carrying, verdict_on};
+ghost use Rattle.server_laws.specs.Sealings.{HasKeysAt, IsSealedRising, IsSealing, Sealing};
 ghost use Rattle.server_laws.specs.Waiting.{all_appended, all_given};
 ghost use Rattle.server_laws.specs.WellKept.{IsWellKept};
 
@@ -131,3 +133,15 @@ pub fn what_opens_is_its_packet(cipher: &AnyGcm)
 {
     sealed_packet::opening_is_what_opens(cipher);
 }
+
+/// No packet id is used twice under one key session of a client: in one step the ids under which data packets go
+/// out rise, pings too; what a later event seals has a later id than what an earlier one sealed; and a session's
+/// keys never change.
+pub fn ids_are_sealed_once()
+    ensures step { (settings : Settings) (key : List ℕ) (before : List Entry) (lacks : Bool) (event : Event) →
+        IsSealedRising (after_all (table_begun settings key) before) (step lacks (after_all (table_begun settings key) before) event) }
+    ensures run { (t : Table) (first : Entry) (between : List Entry) (later : Table) (a b : Sealing) (x y : Action) →
+        IsSealing t (after t first) a x → IsSealing (after_all (after t first) between) later b y →
+        a.client ≡ b.client → a.session ≡ b.session → a.id < b.id }
+    ensures keys { (t : Table) (entries : List Entry) (n k : ℕ) (keys : Keys) → HasKeysAt t n k keys → HasKeysAt (after_all t entries) n k keys }
+{}

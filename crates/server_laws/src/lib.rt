@@ -5,7 +5,7 @@
 mod inner_packets;
 
 pub use inner_packets::{
-    ids_are_accepted_once, no_packet_is_lost, other_events_hand_nothing_on,
+    ids_are_accepted_once, ids_are_sealed_once, no_packet_is_lost, other_events_hand_nothing_on,
     packets_go_where_they_should, packets_of_the_device_go_to_owners, packets_wait_in_order,
     packets_were_sealed, tables_are_well_kept, what_opens_is_its_packet,
 };
