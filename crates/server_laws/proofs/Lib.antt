@@ -15,3 +15,4 @@ pub mod Steps
 pub mod Queue
 pub mod Runs
 pub mod Sealings
+pub mod Order

@@ -202,7 +202,7 @@ append_step : (row : Row) (all xs ys : List Row) (b : Bool) → all ≡ xs ++ ys
 append_step row all xs ys true e = e
 append_step row all xs ys false e = ap (λ (rows : List Row). row ∷ rows) e
 
-without_append : (xs ys : List Row) (id : Cid) → without (xs ++ ys) id ≡ without xs id ++ without ys id
+pub without_append : (xs ys : List Row) (id : Cid) → without (xs ++ ys) id ≡ without xs id ++ without ys id
 without_append [] ys id = refl
 without_append (row ∷ xs) ys id = append_step row (without (xs ++ ys) id) (without xs id) (without ys id) (row.1.0 == id.0) (without_append xs ys id)
 

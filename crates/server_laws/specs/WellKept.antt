@@ -2,7 +2,7 @@
 use Rattle.std.specs.Prelude.{◌≡◌, ℕ, ◌≤◌, ◌^◌, is_some, true, List, [], ◌∷◌, ◌++◌, length, Option, Some, None, slice_get}
 use Rattle.std.specs.List.{AllByRecursion, list_any}
 use Rattle.vpn_base.specs.declared.names.Role.TheVariants.{Server}
-use Rattle.route_table.specs.Owner.{Row, owner}
+use Rattle.route_table.specs.Owner.{Row, owner, without}
 use Rattle.route_table.specs.Learned.{Host, rows_of}
 use Rattle.ovpn_config.specs.declared.settings.Settings.{Settings}
 use Rattle.peer_table.specs.KeySessions.{Keys, Session, has_keys, keys_of}
@@ -60,6 +60,19 @@ pub record AreThoseEstablished (clients : List Client) (moment : ℕ) (rows : Li
   pub in_time : AreInTime clients order
   pub until : AllByRecursion (λ n. since_at (slice_get clients n) ≤ moment) order
   pub are_theirs : rows ≡ rows_for clients order
+
+-- all rows but those of these clients, in their order
+abbrev pub rows_without : List ℕ → List Row → List Row
+rows_without [] rows = rows
+rows_without (n ∷ gone) rows = without (rows_without gone rows) (cid n)
+
+-- The rows of a table are those of an earlier one in their order, without those of clients that are gone, and behind them rows of clients that
+-- were not established before.
+pub record FollowRows (before later : Table) : Type 0 where
+  pub gone : List ℕ
+  pub added : List Row
+  pub are_new : AllByRecursion (λ (row : Row). IsEstablishedAt before.clients row.1.0 → ⊥) added
+  pub are_rows : later.routes.rows ≡ rows_without gone before.routes.rows ++ added
 
 -- ---- the hosts
 

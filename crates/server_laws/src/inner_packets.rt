@@ -31,7 +31,7 @@ ghost use Rattle.server_laws.specs.Accepted.{Accepts};
 ghost use Rattle.server_laws.specs.HandedOn.{BringsOne, IsDealtWith, IsForward, IsQuiet, IsSealedPing, IsSentOn, carrying, verdict_on};
 ghost use Rattle.server_laws.specs.Sealings.{HasKeysAt, IsSealedRising, IsSealing, Sealing};
 ghost use Rattle.server_laws.specs.Waiting.{all_appended, all_given};
-ghost use Rattle.server_laws.specs.WellKept.{IsWellKept};
+ghost use Rattle.server_laws.specs.WellKept.{FollowRows, IsWellKept};
 
 use gcm_seal::AnyGcm;
 
@@ -42,6 +42,7 @@ pub fn tables_are_well_kept()
     ensures begins { (settings : Settings) (key : List ℕ) → IsWellKept (table_begun settings key) }
     ensures step { (lacks : Bool) (t : Table) (event : Event) → IsWellKept t → IsWellKept (step lacks t event).table }
     ensures run { (settings : Settings) (key : List ℕ) (entries : List Entry) → IsWellKept (after_all (table_begun settings key) entries) }
+    ensures order { (lacks : Bool) (t : Table) (event : Event) → FollowRows t (step lacks t event).table }
     ensures settings { (settings : Settings) (key : List ℕ) (entries : List Entry) → (after_all (table_begun settings key) entries).settings ≡ settings }
 {}
 
