@@ -1,5 +1,5 @@
 -- What it tells that a client's session accepts a data packet, and when it does.
-use Rattle.std.proofs.Common.{◌≡◌, ◌<◌, ◌≤◌, ℕ, zero, suc, ◌+◌, ◌*◌, ◌-◌, ◌==◌, not, Bool, true, false, cond, List, [], ◌∷◌, take, Option, Some, None, refl, sym, ap, ◌∙◌, subst, inl, inr, arith, nat_le, leb-true, leb-false, Result, Ok, Err, is_ok}
+use Rattle.std.proofs.Common.{◌≡◌, ◌<◌, ℕ, zero, suc, ◌+◌, ◌*◌, ◌-◌, ◌==◌, not, Bool, true, false, cond, List, [], ◌∷◌, take, Option, Some, None, refl, sym, ap, ◌∙◌, subst, inl, inr, arith, nat_le, leb-true, leb-false, Result, Ok, Err, is_ok}
 use Rattle.std.specs.Prelude.{◌⊎◌, slice_get, if◌then◌else◌, find}
 use Rattle.std.proofs.lemmas.Bool.{and_parts, cases_order, eq-eqb, eqb-true, false≢true, ne_eqb, not-true}
 use Rattle.vpn_base.specs.declared.names.Freshness.{Freshness}

@@ -1,5 +1,5 @@
 -- A step keeps the order of the rows.
-use Rattle.std.proofs.Common.{◌≡◌, ℕ, ◌==◌, not, cond, Bool, true, false, List, [], ◌∷◌, ◌++◌, Option, Some, None, is_some, refl, sym, ap, ◌∙◌, subst, append_assoc, append-nil}
+use Rattle.std.proofs.Common.{◌≡◌, ℕ, ◌==◌, not, cond, Bool, true, false, List, [], ◌∷◌, ◌++◌, Option, Some, None, is_some, sym, ap, ◌∙◌, append_assoc, append-nil}
 use Rattle.std.specs.Prelude.{slice_get}
 use Rattle.std.specs.List.{AllByRecursion}
 use Rattle.std.proofs.lemmas.Bool.{false≢true}
@@ -12,7 +12,7 @@ use Rattle.server_table.specs.Lookups.{cid}
 use Rattle.server_table.specs.Courses.{Course}
 use Rattle.server_table.specs.Establishing.{networks_of}
 use Rattle.server_table.specs.Sound.{IsEstablishedAt}
-use Rattle.server_table.specs.Step.{course_begun, course_of, step}
+use Rattle.server_table.specs.Step.{course_begun, step}
 use Rattle.server_laws.specs.WellKept.{FollowRows, rows_without}
 use Rattle.server_laws.proofs.Places.{some_same}
 use Rattle.server_laws.proofs.Closed.{DealsWith, IsClosed, here_at}

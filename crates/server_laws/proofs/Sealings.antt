@@ -1,16 +1,14 @@
 -- Packet ids that are sealed rise.
-use Rattle.std.proofs.Common.{◌≡◌, ◌≤◌, ◌<◌, ℕ, zero, suc, ◌+◌, Bool, true, false, cond, List, [], ◌∷◌, ◌++◌, filter, map, length, Option, Some, None, refl, sym, ap, ◌∙◌, subst, arith, append-nil, le_of_eq, le_trans, Result, Ok, Err}
+use Rattle.std.proofs.Common.{◌≡◌, ◌≤◌, ◌<◌, ℕ, ◌+◌, Bool, true, false, cond, List, [], ◌∷◌, ◌++◌, filter, length, Option, Some, None, refl, sym, ap, ◌∙◌, subst, arith, append-nil, le_of_eq, le_trans}
 use Rattle.std.specs.Prelude.{slice_get}
 use Rattle.std.specs.List.{AllByRecursion}
 use Rattle.std.proofs.lemmas.Bool.{false≢true}
 use Rattle.vpn_base.specs.declared.names.Role.{Role}
 use Rattle.vpn_base.specs.declared.names.Role.TheVariants as roles
 use Rattle.vpn_links.specs.Actions.{Action, Ask, Configure, Device, EngineClose, EngineOpen, EnginePut, EngineWrite, Report, Say, Stop, Wire, is_wire}
-use Rattle.vpn_links.specs.Steps.{Lack, LacksAll, LacksHost, LacksNothing}
 use Rattle.vpn_links.specs.declared.events.Event.{Event}
 use Rattle.vpn_links.specs.declared.notes.Note.TheVariants as notes
 use Rattle.route_table.specs.Learned.{with_host}
-use Rattle.peer_table.specs.Places.{changed_at}
 use Rattle.peer_table.specs.KeySessions.{Keys, Session, keys_of, kid_of, newest_usable, session_at}
 use Rattle.peer_table.specs.DataPackets as packets
 use Rattle.peer_table.specs.Outboxes.{actions_of}
@@ -21,19 +19,19 @@ use Rattle.server_table.specs.ControlDatagrams.{client_begun, session_begun, wit
 use Rattle.server_table.specs.Endings.{ended_as, ending_effects}
 use Rattle.server_table.specs.Establishing.{established_at, establishing_lines, reply}
 use Rattle.server_table.specs.InnerPackets.{sealed_with, with_sent}
-use Rattle.server_table.specs.Runs.{Entry, after, after_all, after_lacking}
+use Rattle.server_table.specs.Runs.{Entry, after, after_all}
 use Rattle.server_table.specs.Step.{course_begun, course_of, step}
-use Rattle.server_laws.specs.HandedOn.{carrying, is_carrying, sealed_by, sealed_in}
+use Rattle.server_laws.specs.HandedOn.{carrying, sealed_by, sealed_in}
 use Rattle.server_laws.specs.Sealings.{AreRising, AreSealings, HasKeysAt, IsSealedRising, IsSealing, Sealing}
 use Rattle.server_laws.specs.WellKept.{IsWellKept}
 use Rattle.server_laws.proofs.Places.{get_changed}
 use Rattle.server_laws.proofs.Peers.{AreKept}
 use Rattle.server_laws.proofs.Runs.{lacking_since}
-use Rattle.server_laws.proofs.Closed.{DealsWith, IsClosed, SealsOf, here_at}
+use Rattle.server_laws.proofs.Closed.{DealsWith, IsClosed, here_at}
 use Rattle.server_laws.proofs.ClosedEngine.{reply_quiet}
 use Rattle.server_laws.proofs.Everything.{came_kept}
 use Rattle.server_laws.proofs.Ids.{AllKept, all_same, all_then, since_closed, since_deals}
-use Rattle.server_laws.proofs.KeptTables.{Good, good_closed, good_deals, parts_kept}
+use Rattle.server_laws.proofs.KeptTables.{Good, good_closed, good_deals}
 use Rattle.server_laws.proofs.Quiet.{actions_quiet, carrying_more, ending_quiet, establishing_quiet, is_empty}
 use Rattle.server_laws.proofs.Steps.{by_over, good_begun}
 

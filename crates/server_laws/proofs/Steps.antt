@@ -20,7 +20,7 @@ use Rattle.peer_table.specs.declared.outcomes.SessionFault.{SessionFault}
 use Rattle.peer_table.specs.declared.outcomes.SessionFault.TheVariants as faults
 use Rattle.peer_table.specs.Places.{first_place}
 use Rattle.packet_ids.specs.Freshness.{recorded}
-use Rattle.peer_table.specs.KeySessions.{Session, kid_of, usable}
+use Rattle.peer_table.specs.KeySessions.{Session, kid_of}
 use Rattle.peer_table.specs.Peer.{Outcome, Peer, other}
 use Rattle.peer_table.specs.DataPackets as packets
 use Rattle.server_table.specs.Table.{Client, Table}

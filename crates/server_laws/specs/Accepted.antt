@@ -1,5 +1,5 @@
 -- What it means that a data packet of a client opens, for the first time and under a usable key.
-use Rattle.std.specs.Prelude.{◌≡◌, ◌⊎◌, ◌<◌, ◌+◌, ◌*◌, ℕ, Bool, true, List, [], ◌∷◌, false, Some, Ok, slice_get, take}
+use Rattle.std.specs.Prelude.{◌≡◌, ◌⊎◌, ◌<◌, ◌+◌, ◌*◌, ℕ, true, List, [], ◌∷◌, false, Some, Ok, slice_get, take}
 use Rattle.vpn_base.specs.declared.address.Addr.{Addr}
 use Rattle.vpn_base.specs.declared.names.Freshness.TheVariants.{Fresh}
 use Rattle.vpn_base.specs.declared.names.Role.TheVariants as roles

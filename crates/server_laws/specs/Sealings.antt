@@ -1,5 +1,5 @@
 -- Under which packet ids data packets are sealed: none is used twice under one key session.
-use Rattle.std.specs.Prelude.{◌≡◌, ℕ, ◌≤◌, ◌<◌, Bool, true, false, List, [], ◌∷◌, Some, slice_get}
+use Rattle.std.specs.Prelude.{◌≡◌, ℕ, ◌≤◌, ◌<◌, List, [], ◌∷◌, Some, slice_get}
 use Rattle.std.specs.List.{AllByRecursion, filter}
 use Rattle.vpn_base.specs.declared.address.Addr.{Addr}
 use Rattle.vpn_base.specs.declared.names.Role.TheVariants as roles
