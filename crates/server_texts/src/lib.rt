@@ -5,9 +5,9 @@
 mod laws;
 mod line;
 mod put;
-//mod replies;
-//mod told;
+mod replies;
+mod told;
 
 pub use laws::definitions_agree;
-//pub use replies::ReplyAhead;
-//pub use told::{establishing_room, say_disconnect, say_establishing};
+pub use replies::ReplyAhead;
+pub use told::{establishing_room, say_disconnect, say_establishing};
