@@ -1,6 +1,6 @@
 //! The push reply to a client, made before it is known which cipher the keys of the client have.
 
-ghost use Rattle.std.specs.Prelude.{◌≡◌, ◌++◌, length, map, max, IfOk};
+ghost use Rattle.std.specs.Prelude.{◌≡◌, ◌≤◌, ◌++◌, length, map, IfOk};
 ghost use Rattle.vpn_base.specs.Address.{ip4_text};
 ghost use Rattle.vpn_text.specs.Mask.{mask_text};
 ghost use Rattle.vpn_links.specs.Actions.{EngineWrite, Holds};
@@ -51,6 +51,7 @@ fn gateway_of(settings: &Settings) -> Ip4
 }
 
 // The length of a mask, as the options spell it.
+#[tactic(auto, using(crate::proofs::Spelled::mask_spelled))]
 fn mask_len(len: u8) -> u8
     ensures most { result ≤ 32 }
     ensures same { mask_text result ≡ mask_text len }
