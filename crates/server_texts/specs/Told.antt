@@ -1,13 +1,6 @@
--- What a manager is told of a client, and the room that it takes in an outbox.
-use Rattle.std.specs.Prelude.{ℕ, ◌+◌, ◌*◌, List, ◌∷◌, length, map}
-use Rattle.vpn_base.specs.declared.address.Ip4.{Ip4}
-use Rattle.vpn_links.specs.Actions.{Action}
+-- The room that an outbox takes of what a manager is told of a client.
+use Rattle.std.specs.Prelude.{ℕ, ◌+◌, ◌*◌, length}
 use Rattle.ccd_files.specs.declared.client_file.Ccd.{Ccd}
-use Rattle.server_table.specs.Establishing.{address_line, established_line, network_line}
-
--- the lines of a client that is established, with this file and address
-abbrev pub lines_for : ℕ → Ccd → Ip4 → List Action
-lines_for n file a = established_line n ∷ address_line n a ∷ map (network_line n) file.iroutes
 
 -- the most bytes of the line that says that a client is established: 20 and the digits of its number
 abbrev pub established_bytes : ℕ

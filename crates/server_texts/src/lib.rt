@@ -8,6 +8,9 @@ mod put;
 mod replies;
 mod told;
 
-pub use laws::definitions_agree;
+pub use laws::replies_are_planned;
 pub use replies::ReplyAhead;
-pub use told::{establishing_room, say_disconnect, say_establishing};
+pub use told::{DISCONNECT_BYTES, establishing_room, say_disconnect, say_establishing};
+
+#[cfg(test)]
+mod tests;

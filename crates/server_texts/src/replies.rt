@@ -40,7 +40,8 @@ impl Model for ReplyAhead {
     ghost invariant = { λ r. r.bytes ≡ max (text_bytes r.with_128) (text_bytes r.with_256) };
 }
 
-// The server's own address, as the options spell it.
+// The server's own address, or one that the options spell alike: behind the last address the numbers go on,
+// and the spelling begins anew.
 fn gateway_of(settings: &Settings) -> Ip4
     ensures { ip4_text result ≡ ip4_text (gateway settings.now) }
 {
@@ -50,7 +51,7 @@ fn gateway_of(settings: &Settings) -> Ip4
     }
 }
 
-// The length of a mask, as the options spell it.
+// The length of a mask, or one that the options spell alike: past 32 it is the mask of 32.
 #[tactic(auto, using(crate::proofs::Spelled::mask_spelled))]
 fn mask_len(len: u8) -> u8
     ensures most { result ≤ 32 }

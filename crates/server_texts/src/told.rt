@@ -5,15 +5,18 @@ ghost use Rattle.std.specs.Fmt.{decimal};
 ghost use Rattle.vpn_links.specs.Actions.{Holds, Say};
 ghost use Rattle.peer_table.specs.Outboxes.{HasRoom, Uses};
 ghost use Rattle.server_table.specs.Endings.{disconnect_line};
-ghost use Rattle.server_table.specs.Establishing.{address_line, established_line, network_line};
-ghost use Rattle.server_table.specs.Table.{Established};
-ghost use Rattle.server_texts.specs.Told.{address_bytes, disconnect_bytes, established_bytes, lines_bytes, lines_effects, lines_for, network_bytes};
+ghost use Rattle.server_table.specs.Establishing.{address_line, ccd_in, established_line, establishing_lines, network_line};
+ghost use Rattle.server_table.specs.Table.{Client, Established};
+ghost use Rattle.server_texts.specs.Told.{address_bytes, disconnect_bytes, established_bytes, lines_bytes, lines_effects, network_bytes};
 
 use crate::line::Line;
 use crate::put::put;
 use ccd_files::Ccd;
 use vpn_base::{Cid, Ip4, NoMemory, Prefix, RouteList};
 use vpn_links::{Effect, Outbox};
+
+/// The most bytes that an outbox takes of [`say_disconnect`], beside one effect.
+pub const DISCONNECT_BYTES: usize = 39;
 
 // The most bytes of the two lines of a client with its address, and of each line with a network of its file.
 const FIRST_BYTES: usize = 94;
@@ -148,7 +151,7 @@ pub fn establishing_room(file: &Ccd) -> Result<(usize, usize), NoMemory>
 /// address in the tunnel, and `>CLIENT:ADDRESS,N,NET/LEN,0` for each network of its file, in order.
 pub fn say_establishing(cid: Cid, file: &Ccd, address: Ip4, out: &mut Outbox)
     requires { HasRoom out.old (lines_effects file.now) (lines_bytes file.now) }
-    ensures said { Holds out.new (out.old.effects ++ lines_for cid.0 file.now address) out.old.staged }
+    ensures said { (x : Client) → ccd_in x.file ≡ file.now → Holds out.new (out.old.effects ++ establishing_lines cid.0 x address) out.old.staged }
     ensures uses { Uses out.old out.new (lines_effects file.now) (lines_bytes file.now) }
 {
     say_first(cid, address, out);

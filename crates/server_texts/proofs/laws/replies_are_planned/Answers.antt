@@ -1,6 +1,6 @@
 use Rattle.std.proofs.Common.{refl}
 use Rattle.server_table.specs.Establishing.{reply}
-use Rattle.server_texts.proofs.laws.definitions_agree.Goals as goal
+use Rattle.server_texts.proofs.laws.replies_are_planned.Goals as goal
 
 pub returns-clause-reply : goal.returns-clause-reply
 unfolding reply
