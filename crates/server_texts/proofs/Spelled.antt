@@ -1,5 +1,5 @@
 -- Plans that are spelled alike.
-use Rattle.std.proofs.Common.{◌≡◌, ℕ, ◌+◌, ◌-◌, ◌%◌, ◌^◌, ◌<◌, ◌≤◌, Bool, true, false, List, [], ◌∷◌, ◌++◌, map, codes, nat_lt, Option, Some, refl, ap, sym, ◌∙◌, arith, if◌then◌else◌}
+use Rattle.std.proofs.Common.{◌≡◌, ℕ, ◌+◌, ◌-◌, ◌%◌, ◌^◌, ◌<◌, Bool, true, false, List, [], ◌∷◌, ◌++◌, map, codes, nat_lt, Option, Some, refl, ap, sym, ◌∙◌, arith, if◌then◌else◌}
 use Rattle.std.specs.Prelude.{unwrap_or}
 use Rattle.std.specs.Fmt.{decimal}
 use borrow.Author.Tests.{ltb-true, ltb-false}
@@ -11,7 +11,7 @@ use Rattle.vpn_text.specs.Mask.{mask_text}
 use Rattle.ovpn_config.specs.declared.settings.Settings.{Settings}
 use Rattle.push_options.specs.Options.{Plan, options_of, ping_options}
 use Rattle.push_options.specs.Parts.{reply_parts}
-use Rattle.server_table.specs.Establishing.{gateway, network}
+use Rattle.server_table.specs.Establishing.{gateway}
 use Rattle.server_texts.specs.Replies.{texts_of, with_nul}
 
 -- the address of a number

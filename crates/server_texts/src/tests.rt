@@ -48,8 +48,14 @@ fn the_reply_to_the_first_client(rt: HostRuntime) -> Result<(), Fail> {
     let alloc = rt.alloc();
     replies_are_planned();
     let mut out = Outbox::make(alloc)?;
-    let ahead =
-        ReplyAhead::make(alloc, &settings(alloc)?, &client_file(alloc)?, ADDRESS, 24, 0)?;
+    let ahead = ReplyAhead::make(
+        alloc,
+        &settings(alloc)?,
+        &client_file(alloc)?,
+        ADDRESS,
+        24,
+        0,
+    )?;
     let (effects, bytes) = ahead.room();
     out.reserve(effects, bytes)?;
     ahead.write(Conn(7), Cipher::Aes256Gcm, &mut out);
