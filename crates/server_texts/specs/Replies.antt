@@ -35,7 +35,7 @@ pub record Replies : Type 0 where
   pub with_128 : List (List ℕ)
   pub with_256 : List (List ℕ)
 
--- those for this cipher
+-- of these the texts for this cipher
 abbrev pub texts_with : Replies → Cipher → List (List ℕ)
 texts_with r Aes128Gcm = r.with_128
 texts_with r Aes256Gcm = r.with_256
@@ -53,6 +53,6 @@ text_bytes (text ∷ texts) = length text + text_bytes texts
 abbrev pub reply_effects : Replies → ℕ
 reply_effects r = max (length r.with_128) (length r.with_256)
 
--- and how many bytes
+-- how many bytes it takes, whichever the cipher is
 abbrev pub reply_bytes : Replies → ℕ
 reply_bytes r = max (text_bytes r.with_128) (text_bytes r.with_256)

@@ -127,7 +127,7 @@ fn write_texts(texts: &[Text], conn: Conn, out: &mut Outbox)
 
 impl ReplyAhead {
     /// The reply to a client with this file, this peer id, and this address in the tunnel with the length of its
-    /// mask, for each of our ciphers. Want of memory is all that can fail.
+    /// mask in bits, of which more than 32 are as 32, for each of our ciphers. Want of memory is all that can fail.
     pub fn make(
         alloc: Global,
         settings: &Settings,
