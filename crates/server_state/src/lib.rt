@@ -1,5 +1,12 @@
-//! What a server's core keeps.
+//! What a server's core keeps, and the few things that all its handlers do.
 #![tactic(auto)]
 
-/// Nothing yet.
-pub fn nothing() {}
+mod client;
+mod packet;
+mod queue;
+mod state;
+
+pub use client::{ClientFile, ClientState};
+pub use packet::Packet;
+pub use queue::DeviceQueue;
+pub use state::ServerCore;
