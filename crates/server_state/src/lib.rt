@@ -2,11 +2,13 @@
 #![tactic(auto)]
 
 mod client;
+mod effects;
 mod packet;
 mod queue;
 mod state;
 
 pub use client::{ClientFile, ClientState};
+pub use effects::put;
 pub use packet::Packet;
 pub use queue::DeviceQueue;
 pub use state::ServerCore;
