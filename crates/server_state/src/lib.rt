@@ -3,6 +3,7 @@
 
 mod client;
 mod effects;
+mod lookups;
 mod packet;
 mod queue;
 mod state;
