@@ -1,3 +1,4 @@
 mod Standing
 mod Courses
 mod Found
+mod Waiting

@@ -1,5 +1,5 @@
 -- For which tables a core stands, and how far a step of it has come.
-use Rattle.std.specs.Prelude.{◌≡◌, ℕ, ◌+◌, ◌*◌, ◌^◌, ◌≤◌, is_some, Bool, true, false, List, ◌++◌, length, map, option_map, Option, Some, None}
+use Rattle.std.specs.Prelude.{◌≡◌, ℕ, ◌+◌, ◌*◌, ◌^◌, ◌≤◌, is_some, Bool, true, false, List, ◌++◌, length, map, filter_map, option_map, Option, Some, None}
 use Rattle.std.specs.List.{AllByRecursion}
 use Rattle.vpn_base.specs.declared.address.Ip4.{Ip4}
 use Rattle.vpn_base.specs.declared.names.Moment.{Moment}
@@ -10,7 +10,7 @@ use Rattle.client_table.specs.Tables.{admitted_by, entries_of, most_of}
 use Rattle.peer_table.specs.Peer.{Peer}
 use Rattle.server_table.specs.Courses.{Course, Staged}
 use Rattle.server_table.specs.Establishing.{first_address, last_address}
-use Rattle.server_table.specs.Lookups.{taken_addresses}
+use Rattle.server_table.specs.Lookups.{address_in}
 use Rattle.server_table.specs.Table.{Client, Established, FileState, Table, Unasked, Awaited, Known}
 use Rattle.server_state.specs.declared.client.ClientFile.{ClientFile}
 use Rattle.server_state.specs.declared.client.ClientFile.TheVariants as files
@@ -60,7 +60,7 @@ pub record CoreStands {S : Type 0} (means : S → Peer → Type 0) (core : Serve
   pub admitted : admitted_by core.clients ≡ length t.clients
   pub most : most_of core.clients ≡ t.settings.max_clients
   pub routes : core.routes ≡ t.routes
-  pub pool : pool.Holds core.pool (record { first = first_address t.settings; last = last_address t.settings; taken = taken_addresses t })
+  pub pool : pool.Holds core.pool (record { first = first_address t.settings; last = last_address t.settings; taken = filter_map address_in t.clients })
   pub queue : core.queue ≡ t.queue
   pub moment : core.moment.0 ≡ t.moment
   pub connections : core.connections ≡ t.connections

@@ -2,6 +2,7 @@
 #![tactic(auto)]
 
 mod client;
+mod device;
 mod effects;
 mod lookups;
 mod packet;

@@ -16,13 +16,13 @@ pub struct Packet {
 }
 
 impl Model for Packet {
-    ghost use Rattle.std.specs.Prelude.{ℕ, List, ◌≤◌, vec_capacity};
+    ghost use Rattle.std.specs.Prelude.{ℕ, List, ◌≤◌, length, vec_capacity};
 
     ghost Value = { List ℕ };
 
     ghost view = { λ p. p.bytes.items };
 
-    ghost invariant = { λ p. 1500 ≤ vec_capacity p.bytes };
+    ghost invariant = { λ p. (1500 ≤ vec_capacity p.bytes) × (length p.bytes.items ≤ 1500) };
 }
 
 impl Packet {
@@ -48,7 +48,8 @@ impl Packet {
 
     /// Its bytes.
     pub fn as_slice(&self) -> &[u8]
-        ensures { result.now ≡ self.now }
+        ensures bytes { result.now ≡ self.now }
+        ensures short { length self.now ≤ 1500 }
     {
         &self.bytes
     }

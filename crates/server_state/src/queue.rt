@@ -1,6 +1,6 @@
 //! The packets that wait for the packet device.
 
-ghost use Rattle.std.specs.Prelude.{◌≡◌, ◌+◌, ◌<◌, ◌≤◌, nat_le, [], ◌∷◌, ◌++◌, length, drop, slice_get, IfOk, OnOk, vec_len, vec_capacity};
+ghost use Rattle.std.specs.Prelude.{◌≡◌, ◌+◌, ◌<◌, ◌≤◌, nat_le, [], ◌∷◌, ◌++◌, length, drop, slice_get, IfOk, IfSome, vec_len, vec_capacity};
 ghost use Rattle.std.specs.Option.{option_copied};
 
 use crate::packet::Packet;
@@ -76,7 +76,8 @@ impl DeviceQueue {
 
     /// The oldest packet that waits. It is None exactly where none waits.
     pub fn front(&self) -> Option<&[u8]>
-        ensures { option_copied result ≡ slice_get self.now 0 }
+        ensures front { option_copied result ≡ slice_get self.now 0 }
+        ensures short { IfSome result (λ bytes. length bytes.now ≤ 1500) }
     {
         match self.waiting.front() {
             None => None,
