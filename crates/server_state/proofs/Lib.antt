@@ -2,3 +2,4 @@ mod Standing
 mod Courses
 mod Found
 mod Waiting
+mod Sealed

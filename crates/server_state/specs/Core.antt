@@ -35,20 +35,24 @@ abbrev pub name_once : Option (List ℕ) → Option Established → Option (List
 name_once name None = None
 name_once name (Some e) = name
 
--- what the core keeps of a client stands for it
+-- what the core keeps of a client beside what it is found by stands for it
+pub record StateStands {S : Type 0} (means : S → Peer → Type 0) (v : ClientState S) (x : Client) : Type 0 where
+  pub session : means v.session x.session
+  pub file : file_state v.file ≡ x.file
+  pub established : option_map established_at v.established ≡ x.established
+  pub heard : v.heard.0 ≡ x.heard
+  pub sealed_at : v.sealed_at.0 ≡ x.sealed_at
+  pub bytes_in : v.bytes_in ≡ x.bytes_in
+  pub bytes_out : v.bytes_out ≡ x.bytes_out
+
+-- all that the core keeps of a client stands for the one of this number
 pub record IsOfClient {S : Type 0} (means : S → Peer → Type 0) (e : Entry (ClientState S)) (n : ℕ) (x : Client) : Type 0 where
   pub number : e.key.number.0 ≡ n
   pub peer_id : e.key.peer_id ≡ x.peer_id
   pub address : e.key.address ≡ x.address
   pub remote : x.session.remote ≡ Some e.key.sid
   pub name : e.key.name ≡ name_once x.session.name x.established
-  pub session : means e.value.session x.session
-  pub file : file_state e.value.file ≡ x.file
-  pub established : option_map established_at e.value.established ≡ x.established
-  pub heard : e.value.heard.0 ≡ x.heard
-  pub sealed_at : e.value.sealed_at.0 ≡ x.sealed_at
-  pub bytes_in : e.value.bytes_in ≡ x.bytes_in
-  pub bytes_out : e.value.bytes_out ≡ x.bytes_out
+  pub state : StateStands means e.value x
 
 -- ---- the core
 

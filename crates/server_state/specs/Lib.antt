@@ -1,2 +1,3 @@
 pub mod Standing
 pub mod Core
+pub mod Sealing

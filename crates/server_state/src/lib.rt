@@ -7,6 +7,7 @@ mod effects;
 mod lookups;
 mod packet;
 mod queue;
+mod sealing;
 mod state;
 
 pub use client::{ClientFile, ClientState};

@@ -1,0 +1,68 @@
+//! How inner packets are sealed to clients.
+
+ghost use Rattle.std.specs.Prelude.{◌≡◌, ◌≤◌, ◌∷◌, ◌++◌, ℕ, List, length, slice_get, Some, IsOk};
+ghost use Rattle.vpn_base.specs.declared.address.Addr.{Addr};
+ghost use Rattle.vpn_links.specs.Actions.{Action, Holds, Wire};
+ghost use Rattle.peer_table.specs.DataPackets.{sealed_to};
+ghost use Rattle.peer_table.specs.Outboxes.{HasRoom, Uses};
+ghost use Rattle.server_table.specs.Courses.{Course, counted};
+ghost use Rattle.server_table.specs.InnerPackets as server;
+ghost use Rattle.server_table.specs.Table.{Client};
+ghost use Rattle.server_state.specs.Core.{CourseStands, IsSound, StateStands};
+ghost use Rattle.server_state.specs.Sealing.{Seals};
+
+use crate::client::ClientState;
+use crate::state::ServerCore;
+use packet_ids::Spent;
+use peer_table::ClientSession;
+use vpn_base::{Addr, Cid, Moment};
+use vpn_links::{Effect, Note, Outbox};
+
+// The length of the datagram that stands at this place of the effects.
+#[tactic(auto, using(crate::proofs::Sealed::length_is))]
+fn wired_length(out: &Outbox, i: usize) -> usize
+    ensures { (to : Addr) (datagram : List ℕ) → slice_get out.now.effects i ≡ Some (Wire to datagram) → result ≡ length datagram }
+{
+    match out.effect(i) {
+        Some(Effect::Wire { bytes, .. }) => bytes.len(),
+        _ => 0,
+    }
+}
+
+// A count of bytes that stays at the greatest u64.
+fn count_up(count: u64, more: usize) -> u64
+    ensures { result ≡ counted count more }
+{
+    count.saturating_add(more as u64)
+}
+
+impl<S: ClientSession> ClientState<S> {
+    // Seals an inner packet to the client, and answers the length of the datagram.
+    fn seal(
+        &mut self,
+        to: Addr,
+        now: Moment,
+        inner: &[u8],
+        out: &mut Outbox,
+    ) -> Result<usize, Spent>
+        requires short { length inner.now ≤ 1500 }
+        requires room { HasRoom out.old 1 1524 }
+        requires goes_on { S.goes_on self.old.session }
+        ensures sealed { (x : Client) → StateStands S.stands self.old x →
+            Seals S.stands self.new out.old out.new to now.0 x result (sealed_to inner.now x.session) }
+        ensures goes_on { S.goes_on self.new.session }
+        ensures count { S.count self.new.session ≡ S.count self.old.session }
+        ensures uses { Uses out.old out.new 1 1524 }
+    {
+        let place = out.count();
+        match self.session.seal_to(inner, to, out) {
+            Ok(()) => {
+                let size = wired_length(out, place);
+                self.sealed_at = now;
+                self.bytes_out = count_up(self.bytes_out, size);
+                Ok(size)
+            }
+            Err(spent) => Err(spent),
+        }
+    }
+}
