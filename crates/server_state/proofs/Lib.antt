@@ -3,3 +3,5 @@ mod Courses
 mod Found
 mod Waiting
 mod Sealed
+mod Changed
+mod Short

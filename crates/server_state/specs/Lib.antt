@@ -1,3 +1,4 @@
 pub mod Standing
 pub mod Core
 pub mod Sealing
+pub mod Verdicts

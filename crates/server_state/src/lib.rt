@@ -9,6 +9,7 @@ mod packet;
 mod queue;
 mod sealing;
 mod state;
+mod verdicts;
 
 pub use client::{ClientFile, ClientState};
 pub use effects::put;

@@ -1,6 +1,6 @@
 //! How inner packets are sealed to clients.
 
-ghost use Rattle.std.specs.Prelude.{◌≡◌, ◌≤◌, ◌∷◌, ◌++◌, ℕ, List, length, slice_get, Some, IsOk};
+ghost use Rattle.std.specs.Prelude.{◌≡◌, ◌<◌, option_map, ◌≤◌, ◌∷◌, ◌++◌, ℕ, List, length, slice_get, Some, IsOk};
 ghost use Rattle.vpn_base.specs.declared.address.Addr.{Addr};
 ghost use Rattle.vpn_links.specs.Actions.{Action, Holds, Wire};
 ghost use Rattle.peer_table.specs.DataPackets.{sealed_to};
@@ -9,6 +9,8 @@ ghost use Rattle.server_table.specs.Courses.{Course, counted};
 ghost use Rattle.server_table.specs.InnerPackets as server;
 ghost use Rattle.server_table.specs.Table.{Client};
 ghost use Rattle.server_state.specs.Core.{CourseStands, IsSound, StateStands};
+ghost use Rattle.client_table.specs.Changes.{place_of};
+ghost use Rattle.client_table.specs.Tables.{entries_of};
 ghost use Rattle.server_state.specs.Sealing.{Seals};
 
 use crate::client::ClientState;
@@ -63,6 +65,50 @@ impl<S: ClientSession> ClientState<S> {
                 Ok(size)
             }
             Err(spent) => Err(spent),
+        }
+    }
+}
+
+impl<S: ClientSession> ServerCore<S> {
+    // Seals an inner packet to the client at this place.
+    fn seal_at(&mut self, i: usize, to: Addr, target: Cid, inner: &[u8], out: &mut Outbox)
+        requires short { length inner.now ≤ 1500 }
+        requires room { HasRoom out.old 2 1524 }
+        requires sound { IsSound S.goes_on S.count self.old }
+        requires place { place_of target.0 (entries_of self.old.clients) ≡ Some i }
+        requires within { i < length (entries_of self.old.clients) }
+        requires key { option_map (λ e. e.key.address) (slice_get (entries_of self.old.clients) i) ≡ Some to }
+        ensures sealed { (before : List Action) (c : Course) → CourseStands S.stands before self.old out.old c →
+            CourseStands S.stands before self.new out.new (server.sealed_to target.0 inner.now c) }
+        ensures sound { IsSound S.goes_on S.count self.new }
+        ensures uses { Uses out.old out.new 2 1524 }
+    {
+        client_table::lending_sets_the_value::<ClientState<S>>();
+        let now = self.moment;
+        match self.clients.value_at(i).seal(to, now, inner, out) {
+            Ok(size) => self.bytes_out = count_up(self.bytes_out, size),
+            Err(_) => self.report(Note::KeySpent { cid: target }, out),
+        }
+    }
+
+    /// Seals an inner packet of at most 1,500 bytes to a client, if it is here, or reports that its packet ids
+    /// are used up. It takes no memory.
+    #[tactic(auto, using(crate::proofs::Sealed::none_sealed))]
+    pub fn seal_to(&mut self, target: Cid, inner: &[u8], out: &mut Outbox)
+        requires short { length inner.now ≤ 1500 }
+        requires room { HasRoom out.old 2 1524 }
+        requires sound { IsSound S.goes_on S.count self.old }
+        ensures sealed { (before : List Action) (c : Course) → CourseStands S.stands before self.old out.old c →
+            CourseStands S.stands before self.new out.new (server.sealed_to target.0 inner.now c) }
+        ensures sound { IsSound S.goes_on S.count self.new }
+        ensures uses { Uses out.old out.new 2 1524 }
+    {
+        match self.clients.place(target) {
+            None => {}
+            Some(i) => {
+                let to = self.clients.key_at(i).address;
+                self.seal_at(i, to, target, inner, out);
+            }
         }
     }
 }
