@@ -1,9 +1,8 @@
 -- A core of which one client was changed.
-use Rattle.std.proofs.Common.{◌≡◌, ℕ, zero, suc, ◌+◌, ◌≤◌, Bool, true, List, [], ◌∷◌, length, slice_get, option_map, Option, Some, None, refl, sym, ap, subst, ◌∙◌, arith}
+use Rattle.std.proofs.Common.{◌≡◌, ℕ, zero, suc, ◌+◌, ◌≤◌, true, cond, List, [], ◌∷◌, length, slice_get, option_map, Option, Some, None, refl, sym, ap, subst, ◌∙◌, arith}
 use Rattle.std.specs.Prelude.{filter_map, unwrap_or, is_some}
 use Rattle.std.specs.List.{AllByRecursion, cons_option}
 use Rattle.std.proofs.lemmas.Bool.{false≢true}
-use Rattle.vpn_base.specs.declared.address.Ip4.{Ip4}
 use Rattle.address_pool.specs.Holds as pool
 use Rattle.client_table.specs.declared.table.ClientTable.{ClientTable}
 use Rattle.client_table.specs.Changes as table
@@ -18,6 +17,7 @@ use Rattle.server_table.specs.Table.{Client, Table}
 use Rattle.server_state.specs.declared.client.ClientState.{ClientState}
 use Rattle.server_state.specs.declared.state.ServerCore.{ServerCore}
 use Rattle.server_state.specs.Core.{CoreStands, GoesOn, IsOfClient, IsSound, StateStands, name_once}
+use Rattle.server_state.specs.Places.{IsChangedAt, IsThere}
 use Rattle.server_state.specs.Standing.{StandFrom}
 use Rattle.server_state.proofs.Standing.{IsLocated, Located, located}
 
@@ -80,15 +80,16 @@ module _ {S : Type 0} (means : S → Peer → Type 0) (core : ServerCore S) wher
       (located (IsOfClient means) (λ e. e.key.number.0) (λ e n x is. is.number) m t.clients (entries_of core.clients) 0 m (omega arith) h.clients)
 
   -- one client was changed at the core and at the table
-  pub client_changed : (t : Table) (m i : ℕ) (ct : ClientTable (ClientState S)) (w : ClientState S) (g : Client → Client) (h : CoreStands means core t)
+  pub entry_changed : (t : Table) (m i : ℕ) (ct : ClientTable (ClientState S)) (f : Entry (ClientState S) → Entry (ClientState S)) (g : Client → Client)
+      (h : CoreStands means core t)
       (l : Located (IsOfClient means) (λ e. e.key.number.0) (λ e n x is. is.number) m (entries_of core.clients) 0 m t.clients i)
-      → entries_of ct ≡ table.changed_at i (table.with_value w) (entries_of core.clients) → admitted_by ct ≡ admitted_by core.clients → most_of ct ≡ most_of core.clients
-      → (g l.client).is_here ≡ true → IsOfClient means (table.with_value w l.entry) m (g l.client) → ((y : Client) → address_in (g y) ≡ address_in y)
+      → entries_of ct ≡ table.changed_at i f (entries_of core.clients) → admitted_by ct ≡ admitted_by core.clients → most_of ct ≡ most_of core.clients
+      → (g l.client).is_here ≡ true → IsOfClient means (f l.entry) m (g l.client) → ((y : Client) → address_in (g y) ≡ address_in y)
       → CoreStands means (record core { clients = ct }) (with_client m g t)
-  client_changed t m i ct w g h l is admitted most here of same = record {
+  entry_changed t m i ct f g h l is admitted most here of same = record {
     settings = h.settings;
     key = h.key;
-    clients = subst (λ es. StandFrom (IsOfClient means) es 0 (changed_at m g t.clients)) (sym is) (l.changed (table.with_value w) g here of);
+    clients = subst (λ es. StandFrom (IsOfClient means) es 0 (changed_at m g t.clients)) (sym is) (l.changed f g here of);
     admitted = admitted ∙ h.admitted ∙ sym (length_same g m t.clients);
     most = most ∙ h.most;
     routes = h.routes;
@@ -106,6 +107,30 @@ module _ {S : Type 0} (means : S → Peer → Type 0) (core : ServerCore S) wher
     last_taken = h.last_taken;
   }
 
+  -- the same with another value
+  pub client_changed : (t : Table) (m i : ℕ) (ct : ClientTable (ClientState S)) (w : ClientState S) (g : Client → Client) (h : CoreStands means core t)
+      (l : Located (IsOfClient means) (λ e. e.key.number.0) (λ e n x is. is.number) m (entries_of core.clients) 0 m t.clients i)
+      → entries_of ct ≡ table.changed_at i (table.with_value w) (entries_of core.clients) → admitted_by ct ≡ admitted_by core.clients → most_of ct ≡ most_of core.clients
+      → (g l.client).is_here ≡ true → IsOfClient means (table.with_value w l.entry) m (g l.client) → ((y : Client) → address_in (g y) ≡ address_in y)
+      → CoreStands means (record core { clients = ct }) (with_client m g t)
+  client_changed t m i ct w g h l is admitted most here of same = entry_changed t m i ct (table.with_value w) g h l is admitted most here of same
+
+  -- what the law says of a client at its place
+  pub is_there : (t : Table) (m i : ℕ) → CoreStands means core t → table.place_of m (entries_of core.clients) ≡ Some i → IsThere means core t m i
+  unfolding client_here
+  is_there t m i h place =
+      let l = there_at t m i h place in
+      record {
+        client = l.client;
+        entry = l.entry;
+        entry_there = l.entry_there;
+        client_there = ap if_here l.client_there ∙ ap (λ b. cond b (Some l.client) None) l.here;
+        stands = l.stands;
+        here = l.here;
+        standing = l.changed;
+        changed = λ ct f g is here of same. entry_changed t m i ct f g h l is.entries_are is.admitted_is is.most_is here of same;
+      }
+
   -- the same with nothing changed at the table
   pub client_kept : (t : Table) (m i : ℕ) (ct : ClientTable (ClientState S)) (w : ClientState S) (h : CoreStands means core t)
       (l : Located (IsOfClient means) (λ e. e.key.number.0) (λ e n x is. is.number) m (entries_of core.clients) 0 m t.clients i)
@@ -114,7 +139,7 @@ module _ {S : Type 0} (means : S → Peer → Type 0) (core : ServerCore S) wher
   client_kept t m i ct w h l is admitted most state =
       subst (λ clients. CoreStands means (record core { clients = ct }) (record t { clients = clients })) (changed_id m t.clients)
       (client_changed t m i ct w (λ x. x) h l is admitted most l.here
-        (with_state means l.entry m l.client l.client w l.stands refl refl refl refl refl state) (λ y. refl))
+      (with_state means l.entry m l.client l.client w l.stands refl refl refl refl refl state) (λ y. refl))
 
   -- more bytes were sealed
   pub with_bytes_out : (t : Table) (a b : ℕ) → CoreStands means core t → a ≡ b → CoreStands means (record core { bytes_out = a }) (record t { bytes_out = b })
@@ -146,18 +171,16 @@ value_of o e v there is = ap (λ o. unwrap_or o v) (sym (ap (λ o. option_map (�
 -- it does with another value at a place, whose session goes on with as many key sessions
 pub sound_changed : {S : Type 0} (goes_on : S → Type 0) (count : S → ℕ) (core : ServerCore S) (ct : ClientTable (ClientState S)) (i : ℕ) (v w : ClientState S)
     → IsSound goes_on count core → option_map (λ e. e.value) (slice_get (entries_of core.clients) i) ≡ Some v → goes_on w.session → count w.session ≡ count v.session
-    → entries_of ct ≡ table.changed_at i (table.with_value w) (entries_of core.clients) → admitted_by ct ≡ admitted_by core.clients → most_of ct ≡ most_of core.clients
-    → IsSound goes_on count (record core { clients = ct })
-sound_changed goes_on count core ct i v w sound there goes same is admitted most = record {
-  sessions = subst (AllByRecursion (GoesOn goes_on count (core.events + 1))) (sym is)
+    → IsChangedAt core i (table.with_value w) ct → IsSound goes_on count (record core { clients = ct })
+sound_changed goes_on count core ct i v w sound there goes same is = record {
+  sessions = subst (AllByRecursion (GoesOn goes_on count (core.events + 1))) (sym is.entries_are)
       (all_changed (GoesOn goes_on count (core.events + 1)) (table.with_value w) (entries_of core.clients) i sound.sessions
-        (λ e at. record {
-          session = goes;
-          few = subst (λ k. k ≤ core.events + 1) (sym (same ∙ sym (ap (λ v. count v.session) (value_of (slice_get (entries_of core.clients) i) e v at there))))
-              (all_at (GoesOn goes_on count (core.events + 1)) (entries_of core.clients) i e sound.sessions at).few;
-        }));
-  most = subst (λ k. k ≤ 4096) (sym most) sound.most;
-  admitted = subst (λ k. k ≤ core.events) (sym admitted) sound.admitted;
+      (λ e at. record {
+        session = goes;
+        few = subst (λ k. k ≤ core.events + 1) (sym (same ∙ sym (ap (λ v. count v.session) (value_of (slice_get (entries_of core.clients) i) e v at there))))
+            (all_at (GoesOn goes_on count (core.events + 1)) (entries_of core.clients) i e sound.sessions at).few;
+      }));
+  most = subst (λ k. k ≤ 4096) (sym is.most_is) sound.most;
+  admitted = subst (λ k. k ≤ core.events) (sym is.admitted_is) sound.admitted;
   connections = sound.connections;
-  buffer = sound.buffer;
 }

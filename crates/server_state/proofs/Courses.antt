@@ -1,5 +1,5 @@
 -- How far a step has come, after one effect more.
-use Rattle.std.proofs.Common.{◌≡◌, List, [], ◌∷◌, ◌++◌, refl, sym, ap, ◌∙◌}
+use Rattle.std.proofs.Common.{List, [], ◌∷◌, ◌++◌, ap, ◌∙◌}
 use Rattle.std.proofs.lemmas.List.{append_assoc}
 use Rattle.vpn_links.specs.Actions.{Action, Contents, Datagram, Holds}
 use Rattle.peer_table.specs.Peer.{Peer}

@@ -49,9 +49,9 @@ module _ {S : Type 0} (means : S → Peer → Type 0) (core : ServerCore S) (t :
   session_is from sid =
       found (keys.is_at from sid) (has_session from sid)
       (λ e n x is here.
-        ap (λ a. is_address a from && bytes_eq e.key.sid.0 sid.0) is.address
-        ∙ sym (ap (λ r. is_address x.address from && is_sid sid r) is.remote)
-        ∙ sym (ap (λ b. b && is_address x.address from && is_sid sid x.session.remote) here))
+      ap (λ a. is_address a from && bytes_eq e.key.sid.0 sid.0) is.address
+      ∙ sym (ap (λ r. is_address x.address from && is_sid sid r) is.remote)
+      ∙ sym (ap (λ b. b && is_address x.address from && is_sid sid x.session.remote) here))
       (λ x gone. ap (λ b. b && is_address x.address from && is_sid sid x.session.remote) gone)
 
   same_name : (name : List ℕ) (o : Option (List ℕ)) → keys.is_name name o ≡ is_name name o
@@ -67,7 +67,7 @@ module _ {S : Type 0} (means : S → Peer → Type 0) (core : ServerCore S) (t :
   name_is name =
       found (keys.has_name name) (is_established_as name)
       (λ e n x is here.
-        ap (keys.is_name name) is.name
-        ∙ once name x.session.name x.established
-        ∙ sym (ap (λ b. b && is_some x.established && is_name name x.session.name) here))
+      ap (keys.is_name name) is.name
+      ∙ once name x.session.name x.established
+      ∙ sym (ap (λ b. b && is_some x.established && is_name name x.session.name) here))
       (λ x gone. ap (λ b. b && is_some x.established && is_name name x.session.name) gone)

@@ -1,5 +1,5 @@
 -- What sealing leaves.
-use Rattle.std.proofs.Common.{◌≡◌, append-nil, ℕ, ◌+◌, Bool, true, false, cond, List, [], ◌∷◌, ◌++◌, length, slice_get, Option, Some, None, Result, Ok, Err, option_map, refl, sym, ap, subst, ◌∙◌}
+use Rattle.std.proofs.Common.{◌≡◌, append-nil, ℕ, Bool, true, false, cond, List, [], ◌∷◌, ◌++◌, length, slice_get, Option, Some, None, Result, Ok, Err, option_map, refl, sym, ap, subst, ◌∙◌}
 use Rattle.std.specs.Prelude.{unwrap_or}
 use Rattle.vpn_base.specs.declared.address.Addr.{Addr}
 use Rattle.vpn_links.specs.Actions.{Action, Contents, Holds, Stop, Wire, action, carried_bytes}
@@ -13,13 +13,13 @@ use Rattle.peer_table.specs.DataPackets.{ids_are_spent, sealed_by, sealed_in, se
 use Rattle.peer_table.specs.KeySessions.{Keys, Session, keys_of, newest_usable, session_at}
 use Rattle.peer_table.specs.Outboxes.{wired}
 use Rattle.peer_table.specs.Peer.{Outcome, Peer}
-use Rattle.server_table.specs.Courses.{Course, counted, did, reported, with_client}
+use Rattle.server_table.specs.Courses.{Course, counted, reported, with_client}
 use Rattle.server_table.specs.InnerPackets as server
 use Rattle.server_table.specs.Lookups.{cid, client_here, if_here}
-use Rattle.server_table.specs.Table.{Client, Table}
+use Rattle.server_table.specs.Table.{Client}
 use Rattle.server_state.specs.declared.client.ClientState.{ClientState}
 use Rattle.server_state.specs.declared.state.ServerCore.{ServerCore}
-use Rattle.server_state.specs.Core.{CoreStands, CourseStands, IsOfClient, StateStands}
+use Rattle.server_state.specs.Core.{CourseStands, IsOfClient, StateStands}
 use Rattle.server_state.specs.Sealing.{Seals, TellsSealed, after_sealing}
 use Rattle.server_state.proofs.Standing.{Located}
 use Rattle.server_state.proofs.Changed.{client_changed, client_kept, nobody_at, there_at, with_bytes_out, with_state}
@@ -90,17 +90,17 @@ module _ {S : Type 0} (means : S → Peer → Type 0) (before : List Action) (co
     ok_step new size b peer (Ok d) more remote name state holds told =
         let g : Client → Client = server.with_sent c.table.moment peer (length d) in
         did_stands means before (record core { clients = ct; bytes_out = b }) old new (Wire l.client.address d)
-            (record c { table = record (with_client m g c.table) { bytes_out = counted c.table.bytes_out (length d) } })
-            (record {
-              table = with_bytes_out means (record core { clients = ct }) (with_client m g c.table) b (counted c.table.bytes_out (length d))
-                  (client_changed means core c.table m i ct w g h.table l is admitted most l.here
-                    (with_state means l.entry m l.client (g l.client) w l.stands refl refl remote name refl
-                      (subst (λ (now : ℕ). StateStands means w (server.with_sent now peer (length d) l.client)) h.table.moment state))
-                    (λ y. refl))
-                  (more ∙ ap (counted core.bytes_out) told ∙ ap (λ k. counted k (length d)) h.table.bytes_out);
-              outbox = h.outbox;
-            })
-            (subst (λ (address : Addr). Holds new (old.effects ++ Wire address d ∷ []) old.staged) address_is holds)
+        (record c { table = record (with_client m g c.table) { bytes_out = counted c.table.bytes_out (length d) } })
+        (record {
+          table = with_bytes_out means (record core { clients = ct }) (with_client m g c.table) b (counted c.table.bytes_out (length d))
+              (client_changed means core c.table m i ct w g h.table l is admitted most l.here
+              (with_state means l.entry m l.client (g l.client) w l.stands refl refl remote name refl
+              (subst (λ (now : ℕ). StateStands means w (server.with_sent now peer (length d) l.client)) h.table.moment state))
+              (λ y. refl))
+              (more ∙ ap (counted core.bytes_out) told ∙ ap (λ k. counted k (length d)) h.table.bytes_out);
+          outbox = h.outbox;
+        })
+        (subst (λ (address : Addr). Holds new (old.effects ++ Wire address d ∷ []) old.staged) address_is holds)
     ok_step new size b peer (Err s) more remote name state holds told = absurd told
 
     -- it was sealed
@@ -112,8 +112,8 @@ module _ {S : Type 0} (means : S → Peer → Type 0) (before : List Action) (co
         let o = sealed_to inner l.client.session in
         let s = seals l.client state_was in
         subst (λ x. CourseStands means before (record core { clients = ct; bytes_out = b }) new (server.sealed_for m inner c x))
-            (sym (here_is l.client l.client_there l.here))
-            (ok_step new size b o.peer o.answer more (keeps l.client.session inner).remote (keeps l.client.session inner).name s.state s.outbox s.told)
+        (sym (here_is l.client l.client_there l.here))
+        (ok_step new size b o.peer o.answer more (keeps l.client.session inner).remote (keeps l.client.session inner).name s.state s.outbox s.told)
 
     err_step : (mid new : Contents) (spent : Spent) (peer : Peer) (a : Result (List ℕ) Spent) → ((s : Spent) → a ≡ Err s → peer ≡ l.client.session)
         → StateStands means w (after_sealing core.moment.0 l.client peer a) → Holds mid (old.effects ++ wired to a) old.staged → TellsSealed (Err spent) a
@@ -137,5 +137,5 @@ module _ {S : Type 0} (means : S → Peer → Type 0) (before : List Action) (co
         let o = sealed_to inner l.client.session in
         let s = seals l.client state_was in
         subst (λ x. CourseStands means before (record core { clients = ct }) new (server.sealed_for m inner c x))
-            (sym (here_is l.client l.client_there l.here))
-            (err_step mid new spent o.peer o.answer (keeps l.client.session inner).failed s.state s.outbox s.told tells)
+        (sym (here_is l.client l.client_there l.here))
+        (err_step mid new spent o.peer o.answer (keeps l.client.session inner).failed s.state s.outbox s.told tells)

@@ -1,5 +1,5 @@
 -- Only short packets go anywhere.
-use Rattle.std.proofs.Common.{◌≡◌, ℕ, ◌≤◌, Bool, true, false, cond, List, length, Option, Some, None, refl, sym, ap, subst, ◌∙◌, arith}
+use Rattle.std.proofs.Common.{◌≡◌, ℕ, ◌≤◌, Bool, true, false, cond, List, length, Option, refl, ap, ◌∙◌, arith}
 use Rattle.std.specs.Prelude.{nat_lt, not}
 use Rattle.std.proofs.lemmas.Grind.{common_steps}
 use Rattle.vpn_base.specs.declared.names.Cid.{Cid}
@@ -9,6 +9,12 @@ use Rattle.route_table.specs.Owner.{Row, owner}
 use Rattle.inner_verdict.specs.declared.Verdict.{Verdict}
 use Rattle.inner_verdict.specs.declared.Verdict.TheVariants.{NotIp, TooLong, Multicast, BadSource, ToClient, ToDevice, NoRoute}
 use Rattle.inner_verdict.specs.Verdict.{is_group, sourced, verdict}
+use Rattle.ovpn_config.specs.declared.settings.Settings.{Settings}
+use Rattle.peer_table.specs.Peer.{Peer}
+use Rattle.route_table.specs.Learned as routes
+use Rattle.server_table.specs.Table.{Table}
+use Rattle.server_state.specs.declared.state.ServerCore.{ServerCore}
+use Rattle.server_state.specs.Core.{CoreStands}
 use Rattle.server_state.specs.Verdicts.{IsShortTo}
 
 not_long : (inner : List ℕ) → nat_lt 1500 (length inner) ≡ false → length inner ≤ 1500
@@ -36,3 +42,10 @@ unfolding verdict
 short_is rows subnet between sender inner =
     by_tests inner (sourced between sender (owner rows (source inner)) (owner rows (destination inner))) (not (is_ip inner))
     (nat_lt 1500 (length inner)) (is_group subnet (destination inner)) refl
+
+-- the verdict over a core's rows and settings is that over its table's
+pub verdict_same : {S : Type 0} (means : S → Peer → Type 0) (core : ServerCore S) (t : Table) (sender : Option Cid) (inner : List ℕ) → CoreStands means core t
+    → verdict core.routes.rows core.settings.net core.settings.between sender inner ≡ verdict t.routes.rows t.settings.net t.settings.between sender inner
+verdict_same means core t sender inner h =
+    ap (λ (routes : routes.Table). verdict routes.rows core.settings.net core.settings.between sender inner) h.routes
+    ∙ ap (λ (s : Settings). verdict t.routes.rows s.net s.between sender inner) h.settings

@@ -1,8 +1,7 @@
 -- Items that stand for the clients that are here: how they are found and changed.
-use Rattle.std.proofs.Common.{◌≡◌, ◌≢◌, ℕ, zero, suc, ◌+◌, ◌<◌, ◌≤◌, ◌==◌, Bool, true, false, cond, List, [], ◌∷◌, length, find, slice_get, option_map, Option, Some, None, refl, sym, ap, subst, ◌∙◌, arith}
+use Rattle.std.proofs.Common.{◌≡◌, ℕ, zero, suc, ◌+◌, ◌<◌, ◌==◌, Bool, true, false, cond, List, [], ◌∷◌, find, slice_get, option_map, Option, Some, None, refl, sym, ap, subst, ◌∙◌, arith}
 use Rattle.std.proofs.lemmas.Bool.{false≢true}
 use Rattle.std.proofs.lemmas.Grind.{common_steps}
-use Rattle.vpn_base.specs.declared.names.Cid.{Cid}
 use Rattle.peer_table.specs.Places.{changed_at, earlier, first_place}
 use Rattle.client_table.specs.Changes as table
 use Rattle.server_table.specs.Table.{Client}
@@ -153,13 +152,13 @@ module _ {E : Type 0} (IsOf : E → ℕ → Client → Type 0) (number : E → �
   located_step m n zero x clients (e ∷ es) true is here h ih =
       let same : m ≡ n = omega (arith, is) in
       subst (λ b. IsLocated m (e ∷ es) n 0 (x ∷ clients) (table.earlier b (table.place_where (has m) es)))
-          (sym (is_same m (number e) (number_is e n x h.0 ∙ sym same)))
-          (at_first m e es n x clients same here h.0 h.1)
+      (sym (is_same m (number e) (number_is e n x h.0 ∙ sym same)))
+      (at_first m e es n x clients same here h.0 h.1)
   located_step m n (suc j) x clients (e ∷ es) true is here h ih =
       let apart : (n == m) ≡ false = not_more m n j is (n == m) refl in
       subst (λ b. IsLocated m (e ∷ es) n (suc j) (x ∷ clients) (table.earlier b (table.place_where (has m) es)))
-          (sym (ap (λ k. k == m) (number_is e n x h.0) ∙ apart))
-          (past_here m e es n j x clients (table.place_where (has m) es) here h.0 (ih es (suc n) j (omega (arith, is)) h.1))
+      (sym (ap (λ k. k == m) (number_is e n x h.0) ∙ apart))
+      (past_here m e es n j x clients (table.place_where (has m) es) here h.0 (ih es (suc n) j (omega (arith, is)) h.1))
   located_step m n zero x clients es false is here h ih =
       let below : m < suc n = omega (arith, is) in
       subst (λ o. IsLocated m es n 0 (x ∷ clients) o) (sym (none_below m clients es (suc n) below h)) (if_gone x false here refl)

@@ -1,11 +1,10 @@
 -- The queue to the device.
-use Rattle.std.proofs.Common.{◌≡◌, ℕ, ◌≤◌, Bool, true, false, List, [], ◌∷◌, ◌++◌, length, drop, slice_get, Option, Some, None, refl, sym, ap, subst, ◌∙◌}
+use Rattle.std.proofs.Common.{◌≡◌, ℕ, true, false, List, [], ◌∷◌, ◌++◌, length, drop, slice_get, Some, None, refl, sym, ap, subst, ◌∙◌}
 use Rattle.std.specs.Prelude.{nat_le}
-use Rattle.std.proofs.lemmas.Bool.{false≢true}
-use Rattle.vpn_links.specs.Actions.{Action, Contents, Device, Holds, Report}
+use Rattle.vpn_links.specs.Actions.{Action, Contents, Device, Holds}
 use Rattle.vpn_links.specs.declared.notes.Note.TheVariants.{QueueFull}
 use Rattle.peer_table.specs.Peer.{Peer}
-use Rattle.server_table.specs.Courses.{Course, did, reported}
+use Rattle.server_table.specs.Courses.{Course, reported}
 use Rattle.server_table.specs.InnerPackets.{dequeued, device_ready, queued, queued_unless_full}
 use Rattle.server_table.specs.Lookups.{cid}
 use Rattle.server_table.specs.Table.{Table}
@@ -74,8 +73,8 @@ module _ {S : Type 0} (means : S → Peer → Type 0) (before : List Action) (co
       let same : first ≡ packet = cc in
       let rest : drop 1 core.queue ≡ q = ap (drop 1) (h.table.queue ∙ is) in
       did_stands means before (record core { queue = drop 1 core.queue }) old new (Device first) (record c { table = record c.table { queue = q } })
-          (record { table = with_queue means core c.table (drop 1 core.queue) q h.table rest; outbox = h.outbox })
-          (subst (λ p. Holds new (old.effects ++ Device p ∷ []) old.staged) (sym same) put)
+      (record { table = with_queue means core c.table (drop 1 core.queue) q h.table rest; outbox = h.outbox })
+      (subst (λ p. Holds new (old.effects ++ Device p ∷ []) old.staged) (sym same) put)
 
   -- the oldest is given to the device
   pub given_is : (old new : Contents) (packet : List ℕ) → slice_get core.queue 0 ≡ Some packet → CourseStands means before core old c

@@ -1,5 +1,5 @@
 -- For which tables a core stands, and how far a step of it has come.
-use Rattle.std.specs.Prelude.{◌≡◌, ℕ, ◌+◌, ◌*◌, ◌^◌, ◌≤◌, is_some, Bool, true, false, List, ◌++◌, length, map, filter_map, option_map, Option, Some, None}
+use Rattle.std.specs.Prelude.{◌≡◌, ℕ, ◌+◌, ◌*◌, ◌^◌, ◌≤◌, List, ◌++◌, length, map, filter_map, option_map, Option, Some, None}
 use Rattle.std.specs.List.{AllByRecursion}
 use Rattle.vpn_base.specs.declared.address.Ip4.{Ip4}
 use Rattle.vpn_base.specs.declared.names.Moment.{Moment}
@@ -90,10 +90,9 @@ pub record GoesOn {S : Type 0} (goes_on : S → Type 0) (count : S → ℕ) (mos
   pub few : count e.value.session ≤ most
 
 -- Every session goes on. An event begins at most one key session of a client, and two where it is admitted; it opens at most one
--- connection of each client. The buffer has room for any datagram.
+-- connection of each client.
 pub record IsSound {S : Type 0} (goes_on : S → Type 0) (count : S → ℕ) (core : ServerCore S) : Type 0 where
   pub sessions : AllByRecursion (GoesOn goes_on count (core.events + 1)) (entries_of core.clients)
   pub most : most_of core.clients ≤ 4096
   pub admitted : admitted_by core.clients ≤ core.events
   pub connections : core.connections ≤ 2 ^ 13 * core.events
-  pub buffer : length core.buffer.items ≡ 65536

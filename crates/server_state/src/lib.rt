@@ -4,6 +4,7 @@
 mod client;
 mod device;
 mod effects;
+mod laws;
 mod lookups;
 mod packet;
 mod queue;
@@ -13,6 +14,7 @@ mod verdicts;
 
 pub use client::{ClientFile, ClientState};
 pub use effects::put;
+pub use laws::{a_changed_core_is_sound, places_tell_of_clients};
 pub use packet::Packet;
 pub use queue::DeviceQueue;
 pub use state::ServerCore;

@@ -24,8 +24,6 @@ pub struct ServerCore<S> {
     pub pool: Pool,
     /// The packets that wait for the packet device.
     pub queue: DeviceQueue,
-    /// Room for a datagram of 65,536 bytes, in which it is opened.
-    pub buffer: Vec<u8>,
     /// The moment of the last event.
     pub moment: Moment,
     /// How many connections of the TLS engine were opened.

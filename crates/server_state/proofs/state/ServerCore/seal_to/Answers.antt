@@ -1,4 +1,4 @@
-use Rattle.std.proofs.Common.{◌≡◌, sym, ◌∙◌}
+use Rattle.std.proofs.Common.{sym, ◌∙◌}
 use Rattle.server_state.proofs.Sealed.{none_sealed}
 use Rattle.server_state.proofs.state.ServerCore.seal_to.Goals as goal
 
