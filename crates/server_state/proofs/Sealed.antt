@@ -20,7 +20,7 @@ use Rattle.server_table.specs.Table.{Client}
 use Rattle.server_state.specs.declared.client.ClientState.{ClientState}
 use Rattle.server_state.specs.declared.state.ServerCore.{ServerCore}
 use Rattle.server_state.specs.Core.{CourseStands, IsOfClient, StateStands}
-use Rattle.server_state.specs.Sealing.{Seals, TellsSealed, after_sealing}
+use Rattle.server_state.specs.internal.Sealing.{Seals, TellsSealed, after_sealing}
 use Rattle.server_state.proofs.Standing.{Located}
 use Rattle.server_state.proofs.Changed.{client_changed, client_kept, nobody_at, there_at, with_bytes_out, with_state}
 use Rattle.server_state.proofs.Courses.{did_stands}

@@ -1,5 +1,5 @@
 pub mod Standing
 pub mod Core
 pub mod Places
-pub mod Sealing
 pub mod Verdicts
+pub mod internal

@@ -14,7 +14,8 @@ mod verdicts;
 
 pub use client::{ClientFile, ClientState};
 pub use effects::put;
-pub use laws::{a_changed_core_is_sound, places_tell_of_clients};
+pub use laws::{a_changed_core_is_sound, clients_are_found_alike, places_tell_of_clients};
 pub use packet::Packet;
 pub use queue::DeviceQueue;
+pub use sealing::count_up;
 pub use state::ServerCore;

@@ -11,7 +11,7 @@ ghost use Rattle.server_table.specs.Table.{Client};
 ghost use Rattle.server_state.specs.Core.{CourseStands, IsSound, StateStands};
 ghost use Rattle.client_table.specs.Changes.{place_of};
 ghost use Rattle.client_table.specs.Tables.{entries_of};
-ghost use Rattle.server_state.specs.Sealing.{Seals};
+ghost use Rattle.server_state.specs.internal.Sealing.{Seals};
 
 use crate::client::ClientState;
 use crate::state::ServerCore;
@@ -31,8 +31,8 @@ fn wired_length(out: &Outbox, i: usize) -> usize
     }
 }
 
-// A count of bytes that stays at the greatest u64.
-fn count_up(count: u64, more: usize) -> u64
+/// A count of bytes with more of them, which stays at the greatest u64.
+pub fn count_up(count: u64, more: usize) -> u64
     ensures { result ≡ counted count more }
 {
     count.saturating_add(more as u64)
