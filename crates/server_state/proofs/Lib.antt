@@ -1,0 +1,7 @@
+mod Standing
+mod Courses
+mod Found
+mod Waiting
+mod Sealed
+mod Changed
+mod Short
