@@ -4,6 +4,7 @@
 mod client;
 mod device;
 mod effects;
+mod ending;
 mod laws;
 mod lookups;
 mod packet;
