@@ -1,5 +1,5 @@
 -- What an ending leaves.
-use Rattle.std.proofs.Common.{◌≡◌, ℕ, zero, suc, ◌+◌, ◌<◌, ◌≤◌, ◌==◌, not, Bool, true, false, cond, List, [], ◌∷◌, ◌++◌, append-nil, length, take, slice_get, filter, map, option_map, Option, Some, None, refl, sym, ap, subst, ◌∙◌, arith}
+use Rattle.std.proofs.Common.{◌≡◌, ℕ, zero, suc, ◌+◌, ◌<◌, ◌==◌, not, Bool, true, false, cond, List, [], ◌∷◌, ◌++◌, append-nil, length, take, slice_get, map, option_map, Option, Some, None, refl, sym, ap, subst, ◌∙◌, arith}
 use Rattle.std.specs.Prelude.{filter_map, is_some, unwrap_or}
 use Rattle.std.specs.List.{AllByRecursion, cons_option}
 use Rattle.std.proofs.lemmas.Bool.{false≢true}
@@ -88,12 +88,12 @@ own_out : (turn mark m : ℕ) (staged : List Staged) → AreInTurn turn mark sta
 own_out turn mark m staged h same =
     let datagram : Staged → Datagram = λ s. s.datagram in
     let first : of_others m h.earlier ≡ h.earlier =
-        keep_all m h.earlier (all_as (λ (s : Staged). s.number < turn) (λ s. (s.number == m) ≡ false) (λ s less. is_less turn m s.number (s.number == m) same less refl) h.earlier h.before) in
+    keep_all m h.earlier (all_as (λ (s : Staged). s.number < turn) (λ s. (s.number == m) ≡ false) (λ s less. is_less turn m s.number (s.number == m) same less refl) h.earlier h.before) in
     let last : of_others m h.own ≡ [] =
-        keep_none m h.own (all_as (λ (s : Staged). s.number ≡ turn) (λ s. (s.number == m) ≡ true) (λ s is. is_same turn m s.number (s.number == m) same is refl) h.own h.behind) in
+    keep_none m h.own (all_as (λ (s : Staged). s.number ≡ turn) (λ s. (s.number == m) ≡ true) (λ s is. is_same turn m s.number (s.number == m) same is refl) h.own h.behind) in
     let others : of_others m staged ≡ h.earlier ++ [] =
-        ap (of_others m) h.all ∙ filter-append (λ (s : Staged). not (s.number == m)) h.earlier h.own
-        ∙ ap (λ (l : List Staged). l ++ of_others m h.own) first ∙ ap (λ (l : List Staged). h.earlier ++ l) last in
+    ap (of_others m) h.all ∙ filter-append (λ (s : Staged). not (s.number == m)) h.earlier h.own
+    ∙ ap (λ (l : List Staged). l ++ of_others m h.own) first ∙ ap (λ (l : List Staged). h.earlier ++ l) last in
     record {
       left =
           ap (λ (l : List Staged). take mark (map datagram l)) h.all
@@ -108,7 +108,7 @@ others_stay turn mark m staged h apart none =
     let empty : h.earlier ≡ [] = none_of h.earlier mark h.marked none in
     let is_own : staged ≡ h.own = h.all ∙ ap (λ (l : List Staged). l ++ h.own) empty in
     let kept : of_others m h.own ≡ h.own =
-        keep_all m h.own (all_as (λ (s : Staged). s.number ≡ turn) (λ s. (s.number == m) ≡ false) (λ s is. is_apart turn m s.number (s.number == m) apart is refl) h.own h.behind) in
+    keep_all m h.own (all_as (λ (s : Staged). s.number ≡ turn) (λ s. (s.number == m) ≡ false) (λ s is. is_apart turn m s.number (s.number == m) apart is refl) h.own h.behind) in
     let others : of_others m staged ≡ staged = ap (of_others m) is_own ∙ kept ∙ sym is_own in
     record {
       left = sym (ap (map (λ (s : Staged). s.datagram)) others);
@@ -247,8 +247,10 @@ module _ {S : Type 0} (means : S → Peer → Type 0) (before : List Action) (co
           events = h.table.events;
           last_taken = h.table.last_taken;
         };
-        outbox = (holds.0 ∙ told.0 ∙ ap (λ (l : List Action). l ++ ends) h.outbox.0 ∙ append_assoc before c.effects ends,
-            holds.1 ∙ ap (left_out (m == core.turn.0) core.mark) (told.1 ∙ h.outbox.1) ∙ stays.left);
+        outbox = (
+          holds.0 ∙ told.0 ∙ ap (λ (l : List Action). l ++ ends) h.outbox.0 ∙ append_assoc before c.effects ends,
+          holds.1 ∙ ap (left_out (m == core.turn.0) core.mark) (told.1 ∙ h.outbox.1) ∙ stays.left,
+        );
         in_turn = stays.in_turn;
       })
 

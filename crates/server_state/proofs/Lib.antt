@@ -6,3 +6,4 @@ mod Sealed
 mod Changed
 mod Short
 mod Ended
+mod Acted

@@ -1,5 +1,6 @@
 pub mod Standing
 pub mod Core
+pub mod Calls
 pub mod Endings
 pub mod Places
 pub mod Verdicts

@@ -35,12 +35,7 @@ fn close_sessions<S: ClientSession>(session: &S, out: &mut Outbox)
 // What is done at the end of a client: a note, a line for a manager where it was established, and each open engine
 // connection closed.
 
-fn say_ending<S: ClientSession>(
-    cid: Cid,
-    cause: Cause,
-    client: &ClientState<S>,
-    out: &mut Outbox,
-)
+fn say_ending<S: ClientSession>(cid: Cid, cause: Cause, client: &ClientState<S>, out: &mut Outbox)
     requires { HasRoom out.old 5 39 }
     ensures said { (x : Client) → StateStands S.stands client.now x →
         Holds out.new (out.old.effects ++ ending_effects cid.0 cause x) out.old.staged }

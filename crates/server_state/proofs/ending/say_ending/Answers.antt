@@ -12,6 +12,8 @@ returns-clause-said g c x h =
     let closed = c.close_sessions.ensures.closed x.session h.session in
     let put = c.put.ensures.put in
     let line : List Action = disconnect_line c.args.cid.0 x.established in
-    let ends : List Action = actions_of x.session.role (closings x.session.sessions) in
-    (closed.0 ∙ ap (λ (l : List Action). l ++ ends) (told.0 ∙ ap (λ (l : List Action). l ++ line) put.0)
-    ∙ in_order c.args.out.now.effects line ends _, closed.1 ∙ told.1 ∙ put.1)
+    let ends : List Action = actions_of x.session.role (closings x.session.sessions) in (
+      closed.0 ∙ ap (λ (l : List Action). l ++ ends) (told.0 ∙ ap (λ (l : List Action). l ++ line) put.0)
+          ∙ in_order c.args.out.now.effects line ends _,
+      closed.1 ∙ told.1 ∙ put.1,
+    )
