@@ -1,2 +1,3 @@
 mod Learned
 mod Passed
+mod Moved
