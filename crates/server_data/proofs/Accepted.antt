@@ -1,6 +1,6 @@
 -- Data packets that were accepted.
-use Rattle.std.proofs.Common.{◌≡◌, ◌≤◌, ℕ, Bool, true, false, List, length, drop, slice_get, Option, Some, None, option_map, Result, Ok, Err, refl, sym, ap, subst, ◌∙◌}
-use Rattle.std.specs.Prelude.{◌&&◌, not, unwrap_or}
+use Rattle.std.proofs.Common.{◌≡◌, ℕ, Bool, List, length, drop, slice_get, Option, Some, option_map, Result, Ok, Err, refl, sym, ap, subst, ◌∙◌}
+use Rattle.std.specs.Prelude.{◌&&◌, not}
 use Rattle.vpn_base.specs.declared.address.Addr.{Addr}
 use Rattle.vpn_base.specs.declared.names.Cid.{Cid}
 use Rattle.vpn_links.specs.Actions.{Action, Contents}
@@ -79,9 +79,9 @@ module _ {S : Type 0} (means : S → Peer → Type 0) (before : List Action) (co
 
   ok_step : (core1 core2 core3 : ServerCore S) (out2 out3 : Contents) (lacks : Bool) (size bytes : ℕ) (inner : List ℕ) → bytes ≡ length D → inner ≡ drop 24 E
       → ((t : Table) → CoreStands means (record core { clients = ct }) t
-        → CoreStands means core1 (record t { last_taken = beside m number; bytes_in = counted t.bytes_in bytes }))
+      → CoreStands means core1 (record t { last_taken = beside m number; bytes_in = counted t.bytes_in bytes }))
       → ((before : List Action) (c : Course) (x : Client) → CourseStands means before core1 out c → client_here c.table m ≡ Some x
-        → CourseStands means before core2 out2 (server.moved m from x c))
+      → CourseStands means before core2 out2 (server.moved m from x c))
       → ((before : List Action) (c : Course) → CourseStands means before core2 out2 c → CourseStands means before core3 out3 (server.carried lacks m inner c))
       → (peer : Peer) (a : Result (List ℕ) SessionFault) → peer.remote ≡ x.session.remote → peer.name ≡ x.session.name
       → StateStands means w (after_opening core.moment.0 (length D) x peer a) → TellsOpened (Ok size) E a
@@ -93,20 +93,20 @@ module _ {S : Type 0} (means : S → Peer → Type 0) (before : List Action) (co
       let t1 : Table = with_client m g c.table in
       let c1 : Course = server.accepted d m x c peer in
       let h1 : CoreStands means (record core { clients = ct }) t1 =
-              there.changed ct (table.with_value w) g is there.here
-              (of_client means there.entry m x (g x) w there.stands refl refl remote name refl
-                (subst (λ (now : ℕ). StateStands means w (server.with_opened now peer (length D) x)) h.table.moment state))
-              (λ y. refl) in
+      there.changed ct (table.with_value w) g is there.here
+      (of_client means there.entry m x (g x) w there.stands refl refl remote name refl
+      (subst (λ (now : ℕ). StateStands means w (server.with_opened now peer (length D) x)) h.table.moment state))
+      (λ y. refl) in
       let s1 : CourseStands means before core1 out c1 = record {
-                table = subst (λ k. CoreStands means core1 (record t1 { last_taken = beside m k; bytes_in = counted c.table.bytes_in (length D) })) session_is
-                    (subst (λ k. CoreStands means core1 (record t1 { last_taken = beside m number; bytes_in = counted c.table.bytes_in k })) len (accept t1 h1));
-                outbox = h.outbox;
-              } in
+        table = subst (λ k. CoreStands means core1 (record t1 { last_taken = beside m k; bytes_in = counted c.table.bytes_in (length D) })) session_is
+            (subst (λ k. CoreStands means core1 (record t1 { last_taken = beside m number; bytes_in = counted c.table.bytes_in k })) len (accept t1 h1));
+        outbox = h.outbox;
+      } in
       let s2 : CourseStands means before core2 out2 (server.moved m from (g x) c1) =
-              follow before c1 (g x) s1
-              (here_changed c.table m g x (beside m (server.data_session c.table x D)) (counted c.table.bytes_in (length D)) there.client_there refl) in
+      follow before c1 (g x) s1
+      (here_changed c.table m g x (beside m (server.data_session c.table x D)) (counted c.table.bytes_in (length D)) there.client_there refl) in
       let s3 : CourseStands means before core2 out2 (server.moved m from x c1) =
-              subst (λ r. CourseStands means before core2 out2 (server.moved_if m from c1 (not (is_address x.address from) && not (server.is_taken c1.table m from r)))) remote s2 in
+      subst (λ r. CourseStands means before core2 out2 (server.moved_if m from c1 (not (is_address x.address from) && not (server.is_taken c1.table m from r)))) remote s2 in
       subst (λ inner. CourseStands means before core3 out3 (server.carried lacks m inner (server.moved m from x c1))) (inner_is ∙ told.1)
       (carry before (server.moved m from x c1) s3)
 
@@ -114,9 +114,9 @@ module _ {S : Type 0} (means : S → Peer → Type 0) (before : List Action) (co
   pub ok_opened : (core1 core2 core3 : ServerCore S) (out2 out3 : Contents) (lacks : Bool) (size bytes : ℕ) (inner : List ℕ) → bytes ≡ length D → inner ≡ drop 24 E
       → ((x : Client) → StateStands means v x → Opens means w E core.moment.0 (length D) x (Ok size) (data_came D core.moment x.session))
       → ((t : Table) → CoreStands means (record core { clients = ct }) t
-        → CoreStands means core1 (record t { last_taken = beside m number; bytes_in = counted t.bytes_in bytes }))
+      → CoreStands means core1 (record t { last_taken = beside m number; bytes_in = counted t.bytes_in bytes }))
       → ((before : List Action) (c : Course) (x : Client) → CourseStands means before core1 out c → client_here c.table m ≡ Some x
-        → CourseStands means before core2 out2 (server.moved m from x c))
+      → CourseStands means before core2 out2 (server.moved m from x c))
       → ((before : List Action) (c : Course) → CourseStands means before core2 out2 c → CourseStands means before core3 out3 (server.carried lacks m inner c))
       → CourseStands means before core3 out3 (server.data_for (record { from = from; bytes = D; lacks = lacks }) m c (client_here c.table m))
   ok_opened core1 core2 core3 out2 out3 lacks size bytes inner len inner_is opens accept follow carry =
@@ -125,12 +125,12 @@ module _ {S : Type 0} (means : S → Peer → Type 0) (before : List Action) (co
       let k = keeps x.session D core.moment in
       subst (λ y. CourseStands means before core3 out3 (server.data_for (record { from = from; bytes = D; lacks = lacks }) m c y)) (sym there.client_there)
       (subst (λ (now : ℕ). CourseStands means before core3 out3 (server.opened (record { from = from; bytes = D; lacks = lacks }) m x c (data_came D (record { 0 = now }) x.session)))
-        h.table.moment
-        (ok_step core1 core2 core3 out2 out3 lacks size bytes inner len inner_is accept follow carry o.peer o.answer k.remote k.name s.state s.told))
+      h.table.moment
+      (ok_step core1 core2 core3 out2 out3 lacks size bytes inner len inner_is accept follow carry o.peer o.answer k.remote k.name s.state s.told))
 
   err_step : (core2 : ServerCore S) (out2 : Contents) (lacks : Bool) (fault : SessionFault)
       → ((before : List Action) (c : Course) (d : server.FromWire) (x : Client) → number ≡ server.data_session c.table x d.bytes
-        → CourseStands means before (record core { clients = ct }) out c → CourseStands means before core2 out2 (server.refused d m x c fault))
+      → CourseStands means before (record core { clients = ct }) out c → CourseStands means before core2 out2 (server.refused d m x c fault))
       → (peer : Peer) (a : Result (List ℕ) SessionFault) → ((f : SessionFault) → a ≡ Err f → peer ≡ x.session)
       → StateStands means w (after_opening core.moment.0 (length D) x peer a) → TellsOpened (Err fault) E a
       → CourseStands means before core2 out2 (server.opened_as (record { from = from; bytes = D; lacks = lacks }) m x c peer a)
@@ -139,8 +139,8 @@ module _ {S : Type 0} (means : S → Peer → Type 0) (before : List Action) (co
       let d : server.FromWire = record { from = from; bytes = D; lacks = lacks } in
       let state1 : StateStands means w x = subst (λ (p : Peer). StateStands means w (record x { session = p })) (same wanted refl) state in
       let h1 : CoreStands means (record core { clients = ct }) c.table =
-              subst (λ clients. CoreStands means (record core { clients = ct }) (record c.table { clients = clients })) (changed_id m c.table.clients)
-              (there.changed ct (table.with_value w) (λ y. y) is there.here (of_client means there.entry m x x w there.stands refl refl refl refl refl state1) (λ y. refl)) in
+      subst (λ clients. CoreStands means (record core { clients = ct }) (record c.table { clients = clients })) (changed_id m c.table.clients)
+      (there.changed ct (table.with_value w) (λ y. y) is there.here (of_client means there.entry m x x w there.stands refl refl refl refl refl state1) (λ y. refl)) in
       subst (λ f. CourseStands means before core2 out2 (server.refused d m x c f)) told
       (refuse before c d x session_is (record { table = h1; outbox = h.outbox }))
 
@@ -148,7 +148,7 @@ module _ {S : Type 0} (means : S → Peer → Type 0) (before : List Action) (co
   pub err_opened : (core2 : ServerCore S) (out2 : Contents) (lacks : Bool) (fault : SessionFault)
       → ((x : Client) → StateStands means v x → Opens means w E core.moment.0 (length D) x (Err fault) (data_came D core.moment x.session))
       → ((before : List Action) (c : Course) (d : server.FromWire) (x : Client) → number ≡ server.data_session c.table x d.bytes
-        → CourseStands means before (record core { clients = ct }) out c → CourseStands means before core2 out2 (server.refused d m x c fault))
+      → CourseStands means before (record core { clients = ct }) out c → CourseStands means before core2 out2 (server.refused d m x c fault))
       → CourseStands means before core2 out2 (server.data_for (record { from = from; bytes = D; lacks = lacks }) m c (client_here c.table m))
   err_opened core2 out2 lacks fault opens refuse =
       let o = data_came D core.moment x.session in
@@ -156,5 +156,5 @@ module _ {S : Type 0} (means : S → Peer → Type 0) (before : List Action) (co
       let k = keeps x.session D core.moment in
       subst (λ y. CourseStands means before core2 out2 (server.data_for (record { from = from; bytes = D; lacks = lacks }) m c y)) (sym there.client_there)
       (subst (λ (now : ℕ). CourseStands means before core2 out2 (server.opened (record { from = from; bytes = D; lacks = lacks }) m x c (data_came D (record { 0 = now }) x.session)))
-        h.table.moment
-        (err_step core2 out2 lacks fault refuse o.peer o.answer k.failed s.state s.told))
+      h.table.moment
+      (err_step core2 out2 lacks fault refuse o.peer o.answer k.failed s.state s.told))

@@ -1,9 +1,8 @@
 -- Hosts that are learned.
-use Rattle.std.proofs.Common.{◌≡◌, ℕ, Bool, true, false, List, slice_get, Option, Some, None, option_map, refl, sym, ap, subst, ◌∙◌}
-use Rattle.std.specs.Prelude.{◌&&◌, not, unwrap_or}
+use Rattle.std.proofs.Common.{◌≡◌, ℕ, Bool, true, false, List, slice_get, Option, Some, option_map, refl, sym, ap, subst, ◌∙◌}
+use Rattle.std.specs.Prelude.{not, unwrap_or}
 use Rattle.std.proofs.lemmas.Bool.{false≢true}
 use Rattle.vpn_base.specs.declared.address.Ip4.{Ip4}
-use Rattle.vpn_base.specs.declared.names.Cid.{Cid}
 use Rattle.vpn_links.specs.Actions.{Action, Contents}
 use Rattle.vpn_links.specs.declared.notes.Note.TheVariants.{NotLearned}
 use Rattle.client_table.specs.Entries.{Entry}
@@ -13,7 +12,7 @@ use Rattle.route_table.specs.Learned as routes
 use Rattle.server_table.specs.Courses.{Course, reported}
 use Rattle.server_table.specs.InnerPackets.{is_host_of, is_own, learned, learned_unless_lacking, learned_where}
 use Rattle.server_table.specs.Lookups.{cid, client_here}
-use Rattle.server_table.specs.Table.{Client, Table}
+use Rattle.server_table.specs.Table.{Table}
 use Rattle.server_state.specs.declared.client.ClientState.{ClientState}
 use Rattle.server_state.specs.declared.state.ServerCore.{ServerCore}
 use Rattle.server_state.specs.Core.{CoreStands, CourseStands, established_at}
@@ -54,7 +53,7 @@ module _ {S : Type 0} (means : S → Peer → Type 0) (core : ServerCore S) wher
   host_is t m i host v b there at is =
       ap not
       (is ∙ ap (λ (v : ClientState S). is_own host (option_map established_at v.established)) (sym (value_is (slice_get (entries_of core.clients) i) there.entry v there.entry_there at))
-        ∙ ap (is_own host) there.stands.state.established)
+      ∙ ap (is_own host) there.stands.state.established)
       ∙ sym (ap (is_host_of host) there.client_there)
 
   module _ (before : List Action) (c : Course) (m : ℕ) (host : Ip4) where
@@ -70,8 +69,10 @@ module _ {S : Type 0} (means : S → Peer → Type 0) (core : ServerCore S) wher
     unfolding learned
     one_learned out q host_is is h =
         subst (λ b. CourseStands means before (record core { routes = q }) out (learned_where false m host c b)) (sym host_is)
-        (record { table = with_routes means core c.table q (routes.with_host host (cid m) c.table.routes) h.table (is ∙ ap (routes.with_host host (cid m)) h.table.routes);
-                  outbox = h.outbox })
+        (record {
+          table = with_routes means core c.table q (routes.with_host host (cid m) c.table.routes) h.table (is ∙ ap (routes.with_host host (cid m)) h.table.routes);
+          outbox = h.outbox;
+        })
 
     unknown : (b : Bool) → (b ≡ true → false ≡ true) → not b ≡ true
     unknown true not_so = absurd (false≢true (not_so refl))
@@ -86,5 +87,5 @@ module _ {S : Type 0} (means : S → Peer → Type 0) (core : ServerCore S) wher
     lacking out new q host_is same not_there h tells =
         subst (λ b. CourseStands means before (record core { routes = q }) new (learned_where true m host c b)) (sym host_is)
         (subst (λ b. CourseStands means before (record core { routes = q }) new (learned_unless_lacking m host c b))
-          (sym (ap (λ (r : routes.Table). not (routes.is_learned r.learned host)) (sym h.table.routes) ∙ unknown (routes.is_learned core.routes.learned host) not_there))
-          (tells c (record { table = with_routes means core c.table q c.table.routes h.table (same ∙ h.table.routes); outbox = h.outbox })))
+        (sym (ap (λ (r : routes.Table). not (routes.is_learned r.learned host)) (sym h.table.routes) ∙ unknown (routes.is_learned core.routes.learned host) not_there))
+        (tells c (record { table = with_routes means core c.table q c.table.routes h.table (same ∙ h.table.routes); outbox = h.outbox })))

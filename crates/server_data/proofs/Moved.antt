@@ -1,6 +1,6 @@
 -- Clients that move.
 use Rattle.std.proofs.Common.{◌≡◌, ◌≤◌, ℕ, zero, suc, ◌+◌, Bool, true, false, List, [], ◌∷◌, slice_get, Option, Some, None, option_map, refl, sym, ap, subst, ◌∙◌}
-use Rattle.std.specs.Prelude.{◌&&◌, ◌==◌, not, unwrap_or}
+use Rattle.std.specs.Prelude.{◌&&◌, not, unwrap_or}
 use Rattle.std.specs.List.{AllByRecursion}
 use Rattle.vpn_base.specs.declared.address.Addr.{Addr}
 use Rattle.vpn_base.specs.declared.names.Cid.{Cid}
@@ -21,7 +21,7 @@ use Rattle.server_table.specs.Table.{Client, Table}
 use Rattle.server_state.specs.declared.client.ClientState.{ClientState}
 use Rattle.server_state.specs.declared.state.ServerCore.{ServerCore}
 use Rattle.server_state.specs.Core.{CoreStands, CourseStands, GoesOn, IsOfClient, IsSound}
-use Rattle.server_state.specs.Places.{IsChangedAt, IsThere}
+use Rattle.server_state.specs.Places.{IsThere}
 use Rattle.server_state.specs.Standing.{StandFrom}
 
 -- another table of clients with the same entries
@@ -97,9 +97,9 @@ module _ {S : Type 0} (means : S → Peer → Type 0) (before : List Action) (co
   stays k at same =
       subst (λ b. CourseStands means before core out (moved_if m from c b))
       (sym (no_move (is_address x.address from) (not (is_taken c.table m from x.session.remote)) false
-        (ap (λ a. is_address a from)
-          (sym (ap (λ x. x.address) it_is) ∙ sym there.stands.address ∙ ap (λ k. k.address) (key_is (slice_get (entries_of core.clients) i) there.entry k there.entry_there at))
-        ∙ same)))
+      (ap (λ a. is_address a from)
+      (sym (ap (λ x. x.address) it_is) ∙ sym there.stands.address ∙ ap (λ k. k.address) (key_is (slice_get (entries_of core.clients) i) there.entry k there.entry_there at))
+      ∙ same)))
       h
 
   -- whether the address is taken
@@ -112,8 +112,8 @@ module _ {S : Type 0} (means : S → Peer → Type 0) (before : List Action) (co
       may
       ∙ ap (table.may_move_as m from es) (sym item ∙ there.entry_there)
       ∙ ap not
-        (same_other m (table.number_where (is_at from there.entry.key.sid) es) ∙ ap (is_other m) found
-          ∙ sym (ap (is_taken c.table m from) (sym (ap (λ x. x.session.remote) it_is) ∙ there.stands.remote)))
+      (same_other m (table.number_where (is_at from there.entry.key.sid) es) ∙ ap (is_other m) found
+      ∙ sym (ap (is_taken c.table m from) (sym (ap (λ x. x.session.remote) it_is) ∙ there.stands.remote)))
 
   both_false : (a b : Bool) → b ≡ false → (a && b) ≡ false
   both_false true b e = e
@@ -132,7 +132,7 @@ module _ {S : Type 0} (means : S → Peer → Type 0) (before : List Action) (co
   taken ct place item found may has =
       subst (λ b. CourseStands means before (record core { clients = ct }) out (moved_if m from c b))
       (sym (both_false (not (is_address x.address from)) (not (is_taken c.table m from x.session.remote))
-        (sym (taken_is false place item (found there.entry.key.sid) may))))
+      (sym (taken_is false place item (found there.entry.key.sid) may))))
       (record { table = same_clients means core c.table ct h.table has; outbox = h.outbox })
 
   -- it has moved
@@ -149,12 +149,12 @@ module _ {S : Type 0} (means : S → Peer → Type 0) (before : List Action) (co
       let st = there.stands.state in
       let g : Client → Client = λ x. record x { address = from } in
       let elsewhere : is_address x.address from ≡ false =
-              ap (λ a. is_address a from)
-                (sym (ap (λ x. x.address) it_is) ∙ sym there.stands.address ∙ ap (λ k. k.address) (key_is (slice_get es i) there.entry k there.entry_there at))
-              ∙ apart in
+      ap (λ a. is_address a from)
+      (sym (ap (λ x. x.address) it_is) ∙ sym there.stands.address ∙ ap (λ k. k.address) (key_is (slice_get es i) there.entry k there.entry_there at))
+      ∙ apart in
       subst (λ b. CourseStands means before (record core { clients = ct }) new (moved_if m from c b))
       (sym (both_true (is_address x.address from) (not (is_taken c.table m from x.session.remote)) elsewhere
-        (sym (taken_is true place item (found there.entry.key.sid) may))))
+      (sym (taken_is true place item (found there.entry.key.sid) may))))
       (tells (record c { table = with_client m g c.table }) (record {
         table = there.changed ct (table.with_key (table.with_address from)) g
             (record {

@@ -1,5 +1,5 @@
 -- Data packets that are opened, and those that are refused.
-use Rattle.std.proofs.Common.{◌≡◌, ◌≤◌, ℕ, zero, suc, ◌+◌, Bool, true, false, cond, List, [], ◌∷◌, length, drop, slice_get, Option, Some, None, option_map, Result, Ok, Err, refl, sym, ap, subst, ◌∙◌}
+use Rattle.std.proofs.Common.{◌≡◌, ℕ, zero, suc, Bool, true, false, cond, List, [], ◌∷◌, slice_get, Option, Some, None, Result, Err, refl, sym, ap, ◌∙◌}
 use Rattle.std.specs.Prelude.{unwrap_or, is_some}
 use Rattle.std.proofs.lemmas.Bool.{false≢true}
 use Rattle.vpn_base.specs.declared.names.Cid.{Cid}
@@ -7,22 +7,19 @@ use Rattle.vpn_base.specs.declared.names.Freshness.{Freshness}
 use Rattle.vpn_base.specs.declared.names.Freshness.TheVariants.{Fresh, Zero, Old, Seen, Late}
 use Rattle.vpn_base.specs.declared.names.Moment.{Moment}
 use Rattle.vpn_links.specs.Actions.{Action, Contents}
-use Rattle.vpn_links.specs.declared.notes.Note.TheVariants as notes
 use Rattle.peer_table.specs.declared.outcomes.SessionFault.{SessionFault}
 use Rattle.peer_table.specs.DataPackets as packets
-use Rattle.peer_table.specs.KeySessions.{Keys, Session, keys_of, session_at, usable_with}
-use Rattle.peer_table.specs.Outboxes.{TellsOpened}
+use Rattle.peer_table.specs.KeySessions.{Keys, Session, keys_of}
 use Rattle.peer_table.specs.Peer.{Outcome, Peer}
 use Rattle.peer_table.specs.Places.{changed_at}
 use Rattle.packet_ids.specs.Freshness.{freshness}
-use Rattle.server_table.specs.Courses.{Course, counted, reported, with_client}
+use Rattle.server_table.specs.Courses.{Course, with_client}
 use Rattle.server_table.specs.DataDatagrams as server
-use Rattle.server_table.specs.Lookups.{cid, client_here, if_here}
+use Rattle.server_table.specs.Lookups.{client_here, if_here}
 use Rattle.server_table.specs.Table.{Client, Table}
-use Rattle.server_state.specs.declared.client.ClientState.{ClientState}
 use Rattle.server_state.specs.declared.state.ServerCore.{ServerCore}
-use Rattle.server_data.specs.internal.Opening.{Opens, after_opening, beside, by_numbers}
-use Rattle.server_state.specs.Core.{CoreStands, CourseStands, IsOfClient, StateStands}
+use Rattle.server_data.specs.internal.Opening.{beside, by_numbers}
+use Rattle.server_state.specs.Core.{CoreStands, CourseStands}
 
 -- ---- what is told of the last datagram
 

@@ -80,6 +80,6 @@ module _ {S : Type 0} (means : S → Peer → Type 0) (before : List Action) (co
   by_verdict v is stands same h =
       subst (λ b. CourseStands means before new_core new (carried_as lacks m inner c b)) (sym is)
       (subst (λ v. CourseStands means before new_core new (passed lacks m inner c v))
-        (same
-          ∙ ap (λ (r : routes.Table). verdict r.rows core.settings.net core.settings.between (Some (cid m)) inner) stands.routes
-          ∙ ap (λ (s : Settings). verdict c.table.routes.rows s.net s.between (Some (cid m)) inner) stands.settings) h)
+      (same
+      ∙ ap (λ (r : routes.Table). verdict r.rows core.settings.net core.settings.between (Some (cid m)) inner) stands.routes
+      ∙ ap (λ (s : Settings). verdict c.table.routes.rows s.net s.between (Some (cid m)) inner) stands.settings) h)

@@ -22,12 +22,7 @@ fn is_same(a: Addr, b: Addr) -> bool
 
 /// A client that sends from another address has moved there, which is reported, unless another client is
 /// there with its session id.
-pub fn follow<S: ClientSession>(
-    core: &mut ServerCore<S>,
-    cid: Cid,
-    from: Addr,
-    out: &mut Outbox,
-)
+pub fn follow<S: ClientSession>(core: &mut ServerCore<S>, cid: Cid, from: Addr, out: &mut Outbox)
     requires { HasRoom out.old 1 0 }
     ensures moved { (before : List Action) (c : Course) (x : Client) → CourseStands S.stands before core.old out.old c → client_here c.table cid.0 ≡ Some x →
         CourseStands S.stands before core.new out.new (moved cid.0 from x c) }

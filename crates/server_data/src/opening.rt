@@ -119,7 +119,7 @@ fn accept<S: DataSession>(core: &mut ServerCore<S>, cid: Cid, number: Option<u64
 }
 
 // The client at this place tries to open a data packet, where it lies.
-fn open_at<S: DataSession>(
+pub(crate) fn open_at<S: DataSession>(
     core: &mut ServerCore<S>,
     i: usize,
     cid: Cid,
@@ -134,7 +134,7 @@ fn open_at<S: DataSession>(
     requires within { i < length (entries_of core.old.clients) }
     ensures came { (before : List Action) (c : Course) → CourseStands S.stands before core.old out.old c →
         CourseStands S.stands before core.new out.new
-            (server.data_for (record { from = from; bytes = datagram.old; lacks = result }) cid.0 c (client_here c.table cid.0)) }
+        (server.data_for (record { from = from; bytes = datagram.old; lacks = result }) cid.0 c (client_here c.table cid.0)) }
     ensures sound { IsSound S.goes_on S.count core.new }
     ensures uses { Uses out.old out.new 4 1524 }
     ensures length { length datagram.new ≡ length datagram.old }

@@ -1,5 +1,5 @@
 -- What opening a data packet leaves of a client.
-use Rattle.std.specs.Prelude.{◌≡◌, ℕ, List, Option, option_map, Result, Ok, Err}
+use Rattle.std.specs.Prelude.{ℕ, List, Option, option_map, Result, Ok, Err}
 use Rattle.vpn_base.specs.declared.names.Cid.{Cid}
 use Rattle.peer_table.specs.declared.outcomes.SessionFault.{SessionFault}
 use Rattle.peer_table.specs.Outboxes.{TellsOpened}
