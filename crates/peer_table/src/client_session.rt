@@ -39,6 +39,9 @@ pub trait ClientSession {
     /// It did not end: after a turn that is over, only calls that look follow.
     ghost goes_on: { Self → Type 0 };
 
+    /// The latest moment that it was told, in milliseconds.
+    ghost since: { Self → ℕ };
+
     /// It has the memory for this event beside an outbox with room for so many effects and bytes.
     ghost is_ready: { Self → Kind → Bool → ℕ → ℕ → Type 0 };
 
@@ -70,7 +73,8 @@ pub trait ClientSession {
         ensures kept { OnErr result (Holds out.new out.old.effects out.old.staged) }
         ensures goes_on { IfOk result (λ s. goes_on s) }
         ensures uses { Uses out.old out.new 2 1200 }
-        ensures first { IfOk result (λ s. count s ≡ 1) };
+        ensures first { IfOk result (λ s. count s ≡ 1) }
+        ensures since { IfOk result (λ s. since s ≤ now.0) };
 
     /// Takes the memory that the calls for an event of a client, established or not, may need beside the outbox,
     /// and answers for how many effects and bytes the outbox has to have room.
@@ -80,7 +84,8 @@ pub trait ClientSession {
         ensures same { (p : Peer) → stands self.old p → stands self.new p }
         ensures goes_on { goes_on self.new }
         ensures ready { IfOk result (λ room. is_ready self.new kind.now established room.0 room.1) }
-        ensures count { count self.new ≡ count self.old };
+        ensures count { count self.new ≡ count self.old }
+        ensures since { since self.new ≡ since self.old };
 
     /// A control packet has come. Refused are a wrap that was accepted before, and a packet that belongs to no
     /// live key session and begins none. The effects tell whether the next engine connection was opened.
@@ -97,6 +102,7 @@ pub trait ClientSession {
         requires acks { view.now.acks.count ≤ 8 }
         requires few { count self.old < 2 ^ 64 - 1 }
         requires goes_on { goes_on self.old }
+        requires later { since self.old ≤ now.0 }
         ensures left { (p : Peer) → stands self.old p →
             LeavesUnless result stands self.new out.old out.new to p (control_came p (incoming opened.now view.now next_conn established now)) }
         ensures answer { IfOk result (λ answer. (p : Peer) → stands self.old p →
@@ -106,7 +112,8 @@ pub trait ClientSession {
             length view.now.payload.now ≤ length bytes → HasRoom out.old effects room → IsOk result }
         ensures uses { (from : Addr) (bytes : List ℕ) (effects room : ℕ) → is_ready self.old (Datagram from bytes) established effects room →
             length view.now.payload.now ≤ length bytes → Uses out.old out.new effects room }
-        ensures count { count self.new ≤ count self.old + 1 };
+        ensures count { count self.new ≤ count self.old + 1 }
+        ensures since { since self.new ≤ now.0 };
 
     /// The engine has answered on a connection. An answer for no open one does nothing, and neither does one
     /// that says that the connection is down: the owner ends the client then.
@@ -125,7 +132,8 @@ pub trait ClientSession {
         ensures exchange { (established : Bool) (effects room : ℕ) → is_ready self.old kind.now established effects room → may_exchange self.new }
         ensures uses { (established : Bool) (effects room : ℕ) → is_ready self.old kind.now established effects room →
             HasRoom out.old effects room → HasRoom out.new 2 93 × Uses out.old out.new effects room }
-        ensures count { count self.new ≡ count self.old };
+        ensures count { count self.new ≡ count self.old }
+        ensures since { since self.new ≡ since self.old };
 
     /// Makes the key exchange of the newest key session, and does nothing where it is not prepared. What is
     /// sealed under its keys carries this peer id. The server's key source is taken from the draw.
@@ -146,7 +154,8 @@ pub trait ClientSession {
         ensures goes_on { MatchResult result (GoesOnUnlessOver (goes_on self.new)) (λ _. goes_on self.new) }
         ensures fits { may_exchange self.old → HasRoom out.old 2 93 → IsOk result }
         ensures uses { Uses out.old out.new 2 93 }
-        ensures count { count self.new ≡ count self.old };
+        ensures count { count self.new ≡ count self.old }
+        ensures since { since self.new ≡ since self.old };
 
     /// The next message behind a key exchange, if one waits.
     fn next_message(&self) -> Option<Message<'_>>
@@ -157,7 +166,8 @@ pub trait ClientSession {
         requires { goes_on self.old }
         ensures passed { (p : Peer) → stands self.old p → stands self.new (after_message p) }
         ensures goes_on { goes_on self.new }
-        ensures count { count self.new ≡ count self.old };
+        ensures count { count self.new ≡ count self.old }
+        ensures since { since self.new ≡ since self.old };
 
     /// Time has passed. `idle` says that nothing fresh came of the client for too long.
     fn on_tick(
@@ -171,13 +181,15 @@ pub trait ClientSession {
     ) -> Result<Turn, NoMemory>
         requires few { count self.old < 2 ^ 64 - 1 }
         requires goes_on { goes_on self.old }
+        requires later { since self.old ≤ now.0 }
         ensures left { (p : Peer) → stands self.old p →
             LeavesUnless result stands self.new out.old out.new to p (ticked (ticking now.0 next_conn established idle) p) }
         ensures answer { IfOk result (λ turn. (p : Peer) → stands self.old p → turn ≡ (ticked (ticking now.0 next_conn established idle) p).answer) }
         ensures goes_on { MatchResult result (GoesOnUnlessOver (goes_on self.new)) (λ _. goes_on self.new) }
         ensures fits { (effects room : ℕ) → is_ready self.old Kind.Tick established effects room → HasRoom out.old effects room → IsOk result }
         ensures uses { (effects room : ℕ) → is_ready self.old Kind.Tick established effects room → Uses out.old out.new effects room }
-        ensures count { count self.new ≤ count self.old + 1 };
+        ensures count { count self.new ≤ count self.old + 1 }
+        ensures since { since self.new ≤ now.0 };
 
     /// Seals an inner packet of at most 1,500 bytes under the newest usable keys, as an effect. `Spent` comes
     /// exactly where the last packet id was used, or where there are no keys. It takes no memory.
@@ -189,20 +201,23 @@ pub trait ClientSession {
         ensures answer { (p : Peer) → stands self.old p → is_ok result ≡ is_ok (sealed_to inner.now p).answer }
         ensures goes_on { goes_on self.new }
         ensures uses { Uses out.old out.new 1 1524 }
-        ensures count { count self.new ≡ count self.old };
+        ensures count { count self.new ≡ count self.old }
+        ensures since { since self.new ≡ since self.old };
 
     /// Opens a data packet in place, and answers the length of its inner packet, which then stands behind the
     /// first 24 bytes. The bytes are unchanged where nothing opens. It takes no memory.
     fn unseal(&mut self, datagram: &mut [u8], now: Moment) -> Result<usize, SessionFault>
         requires short { length datagram.old ≤ 65536 }
         requires goes_on { goes_on self.old }
+        requires later { since self.old ≤ now.0 }
         ensures left { (p : Peer) → stands self.old p → stands self.new (data_came datagram.old now p).peer }
         ensures answer { (p : Peer) → stands self.old p → TellsOpened result datagram.new (data_came datagram.old now p).answer }
         ensures unchanged { IsUnchanged result datagram.old datagram.new }
         ensures goes_on { goes_on self.new }
         ensures front { take 24 datagram.new ≡ take 24 datagram.old }
         ensures length { length datagram.new ≡ length datagram.old }
-        ensures count { count self.new ≡ count self.old };
+        ensures count { count self.new ≡ count self.old }
+        ensures since { since self.new ≤ now.0 };
 
     /// The client's common name; None exactly before it is known.
     fn name(&self) -> Option<&[u8]>

@@ -64,25 +64,25 @@ no_move false b taken e = cc
 
 -- ---- sessions stay
 
-keys_changed : {S : Type 0} (goes_on : S → Type 0) (count : S → ℕ) (most : ℕ) (f : Key → Key) (es : List (Entry (ClientState S))) (i : ℕ)
-    → AllByRecursion (GoesOn goes_on count most) es → AllByRecursion (GoesOn goes_on count most) (table.changed_at i (table.with_key f) es)
-keys_changed goes_on count most f [] i all = all
-keys_changed goes_on count most f (e ∷ es) zero all = (record { session = all.0.session; few = all.0.few }, all.1)
-keys_changed goes_on count most f (e ∷ es) (suc i) all = (all.0, keys_changed goes_on count most f es i all.1)
+keys_changed : {S : Type 0} (goes_on : S → Type 0) (count since : S → ℕ) (most moment : ℕ) (f : Key → Key) (es : List (Entry (ClientState S))) (i : ℕ)
+    → AllByRecursion (GoesOn goes_on count since most moment) es → AllByRecursion (GoesOn goes_on count since most moment) (table.changed_at i (table.with_key f) es)
+keys_changed goes_on count since most moment f [] i all = all
+keys_changed goes_on count since most moment f (e ∷ es) zero all = (record { session = all.0.session; few = all.0.few; past = all.0.past }, all.1)
+keys_changed goes_on count since most moment f (e ∷ es) (suc i) all = (all.0, keys_changed goes_on count since most moment f es i all.1)
 
-pub key_sound : {S : Type 0} (goes_on : S → Type 0) (count : S → ℕ) (core : ServerCore S) (ct : ClientTable (ClientState S)) (f : Key → Key) (o : Option ℕ)
+pub key_sound : {S : Type 0} (goes_on : S → Type 0) (count since : S → ℕ) (core : ServerCore S) (ct : ClientTable (ClientState S)) (f : Key → Key) (o : Option ℕ)
     → Has ct (table.changed_where o (table.with_key f) (entries_of core.clients)) (most_of core.clients) (admitted_by core.clients)
-    → IsSound goes_on count core → IsSound goes_on count (record core { clients = ct })
-key_sound goes_on count core ct f o has sound = record {
-  sessions = subst (AllByRecursion (GoesOn goes_on count (core.events + 1))) (sym has.entries_are) (at o);
+    → IsSound goes_on count since core → IsSound goes_on count since (record core { clients = ct })
+key_sound goes_on count since core ct f o has sound = record {
+  sessions = subst (AllByRecursion (GoesOn goes_on count since (core.events + 1) core.moment.0)) (sym has.entries_are) (at o);
   most = subst (λ k. k ≤ 4096) (sym has.most_is) sound.most;
   admitted = subst (λ k. k ≤ core.events) (sym has.admitted_is) sound.admitted;
   connections = sound.connections;
 }
   where
-    at : (o : Option ℕ) → AllByRecursion (GoesOn goes_on count (core.events + 1)) (table.changed_where o (table.with_key f) (entries_of core.clients))
+    at : (o : Option ℕ) → AllByRecursion (GoesOn goes_on count since (core.events + 1) core.moment.0) (table.changed_where o (table.with_key f) (entries_of core.clients))
     at None = sound.sessions
-    at (Some i) = keys_changed goes_on count (core.events + 1) f (entries_of core.clients) i sound.sessions
+    at (Some i) = keys_changed goes_on count since (core.events + 1) core.moment.0 f (entries_of core.clients) i sound.sessions
 
 -- ---- the move
 

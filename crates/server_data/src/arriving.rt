@@ -36,11 +36,11 @@ fn open_for<S: DataSession>(
     requires short { length bytes.now ≤ 65536 }
     requires fits { length bytes.now ≤ length buffer.old }
     requires room { HasRoom out.old 4 1524 }
-    requires sound { IsSound S.goes_on S.count core.old }
+    requires sound { IsSound S.goes_on S.count S.since core.old }
     ensures came { (before : List Action) (c : Course) → CourseStands S.stands before core.old out.old c →
         CourseStands S.stands before core.new out.new
         (server.data_for (record { from = from; bytes = bytes.now; lacks = result }) cid.0 c (client_here c.table cid.0)) }
-    ensures sound { IsSound S.goes_on S.count core.new }
+    ensures sound { IsSound S.goes_on S.count S.since core.new }
     ensures uses { Uses out.old out.new 4 1524 }
     ensures length { length buffer.new ≡ length buffer.old }
 {
@@ -69,10 +69,10 @@ pub fn data_came<S: DataSession>(
     requires short { length bytes.now ≤ 65536 }
     requires fits { length bytes.now ≤ length buffer.old }
     requires room { HasRoom out.old 4 1524 }
-    requires sound { IsSound S.goes_on S.count core.old }
+    requires sound { IsSound S.goes_on S.count S.since core.old }
     ensures came { (before : List Action) (c : Course) (f : DataForm) → f.peer ≡ peer_id → CourseStands S.stands before core.old out.old c →
         CourseStands S.stands before core.new out.new (server.data_came (record { from = from; bytes = bytes.now; lacks = result }) f c) }
-    ensures sound { IsSound S.goes_on S.count core.new }
+    ensures sound { IsSound S.goes_on S.count S.since core.new }
     ensures uses { Uses out.old out.new 4 1524 }
     ensures length { length buffer.new ≡ length buffer.old }
 {

@@ -47,7 +47,7 @@ pub fn learn<S: ClientSession>(
     requires room { HasRoom out.old 1 0 }
     ensures learned { (before : List Action) (c : Course) → CourseStands S.stands before core.old out.old c →
         CourseStands S.stands before core.new out.new (learned result cid.0 host c) }
-    ensures sound { IsSound S.goes_on S.count core.old → IsSound S.goes_on S.count core.new }
+    ensures sound { IsSound S.goes_on S.count S.since core.old → IsSound S.goes_on S.count S.since core.new }
     ensures uses { Uses out.old out.new 1 0 }
 {
     if !is_host(core, cid, host) {

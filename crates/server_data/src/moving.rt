@@ -26,7 +26,7 @@ pub fn follow<S: ClientSession>(core: &mut ServerCore<S>, cid: Cid, from: Addr, 
     requires { HasRoom out.old 1 0 }
     ensures moved { (before : List Action) (c : Course) (x : Client) → CourseStands S.stands before core.old out.old c → client_here c.table cid.0 ≡ Some x →
         CourseStands S.stands before core.new out.new (moved cid.0 from x c) }
-    ensures sound { IsSound S.goes_on S.count core.old → IsSound S.goes_on S.count core.new }
+    ensures sound { IsSound S.goes_on S.count S.since core.old → IsSound S.goes_on S.count S.since core.new }
     ensures uses { Uses out.old out.new 1 0 }
 {
     server_state::places_tell_of_clients::<S>();

@@ -49,11 +49,13 @@ fn open<S: DataSession>(
 ) -> Result<usize, SessionFault>
     requires short { length datagram.old ≤ 65536 }
     requires goes_on { S.goes_on client.old.session }
+    requires later { S.since client.old.session ≤ now.0 }
     ensures opened { (x : Client) → StateStands S.stands client.old x →
         Opens S.stands client.new datagram.new now.0 (length datagram.old) x result (data_came datagram.old now x.session) }
     ensures file { client.new.file ≡ client.old.file }
     ensures goes_on { S.goes_on client.new.session }
     ensures count { S.count client.new.session ≡ S.count client.old.session }
+    ensures since { S.since client.new.session ≤ now.0 }
 {
     let bytes = datagram.len();
     match client.session.unseal(datagram, now) {
@@ -87,7 +89,7 @@ fn refuse<S: DataSession>(
     requires { HasRoom out.old 1 0 }
     ensures refused { (before : List Action) (c : Course) (d : server.FromWire) (x : Client) → number ≡ server.data_session c.table x d.bytes →
         CourseStands S.stands before core.old out.old c → CourseStands S.stands before core.new out.new (server.refused d cid.0 x c fault) }
-    ensures sound { IsSound S.goes_on S.count core.old → IsSound S.goes_on S.count core.new }
+    ensures sound { IsSound S.goes_on S.count S.since core.old → IsSound S.goes_on S.count S.since core.new }
     ensures uses { Uses out.old out.new 1 0 }
 {
     match fault {
@@ -115,7 +117,7 @@ fn accept<S: DataSession>(core: &mut ServerCore<S>, cid: Cid, number: Option<u64
         (record t { last_taken = beside cid.0 number; bytes_in = counted t.bytes_in bytes }) }
     ensures turn_stays { core.new.turn ≡ core.old.turn }
     ensures mark_stays { core.new.mark ≡ core.old.mark }
-    ensures sound { IsSound S.goes_on S.count core.old → IsSound S.goes_on S.count core.new }
+    ensures sound { IsSound S.goes_on S.count S.since core.old → IsSound S.goes_on S.count S.since core.new }
 {
     core.last_taken = beside(cid, number);
     core.bytes_in = count_up(core.bytes_in, bytes);
@@ -132,13 +134,13 @@ pub(crate) fn open_at<S: DataSession>(
 ) -> bool
     requires short { length datagram.old ≤ 65536 }
     requires room { HasRoom out.old 4 1524 }
-    requires sound { IsSound S.goes_on S.count core.old }
+    requires sound { IsSound S.goes_on S.count S.since core.old }
     requires place { place_of cid.0 (entries_of core.old.clients) ≡ Some i }
     requires within { i < length (entries_of core.old.clients) }
     ensures came { (before : List Action) (c : Course) → CourseStands S.stands before core.old out.old c →
         CourseStands S.stands before core.new out.new
         (server.data_for (record { from = from; bytes = datagram.old; lacks = result }) cid.0 c (client_here c.table cid.0)) }
-    ensures sound { IsSound S.goes_on S.count core.new }
+    ensures sound { IsSound S.goes_on S.count S.since core.new }
     ensures uses { Uses out.old out.new 4 1524 }
     ensures length { length datagram.new ≡ length datagram.old }
 {

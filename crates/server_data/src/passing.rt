@@ -49,10 +49,10 @@ fn pass<S: ClientSession>(
 ) -> bool
     requires may { MayPass core.old.routes.rows cid inner.now verdict }
     requires room { HasRoom out.old 3 1524 }
-    requires sound { IsSound S.goes_on S.count core.old }
+    requires sound { IsSound S.goes_on S.count S.since core.old }
     ensures passed { (before : List Action) (c : Course) → CourseStands S.stands before core.old out.old c →
         CourseStands S.stands before core.new out.new (passed result cid.0 inner.now c verdict) }
-    ensures sound { IsSound S.goes_on S.count core.new }
+    ensures sound { IsSound S.goes_on S.count S.since core.new }
     ensures uses { Uses out.old out.new 3 1524 }
 {
     match verdict {
@@ -98,10 +98,10 @@ pub fn carry<S: ClientSession>(
     out: &mut Outbox,
 ) -> bool
     requires room { HasRoom out.old 3 1524 }
-    requires sound { IsSound S.goes_on S.count core.old }
+    requires sound { IsSound S.goes_on S.count S.since core.old }
     ensures carried { (before : List Action) (c : Course) → CourseStands S.stands before core.old out.old c →
         CourseStands S.stands before core.new out.new (carried result cid.0 inner.now c) }
-    ensures sound { IsSound S.goes_on S.count core.new }
+    ensures sound { IsSound S.goes_on S.count S.since core.new }
     ensures uses { Uses out.old out.new 3 1524 }
 {
     if is_ping(inner) {

@@ -171,16 +171,18 @@ value_of : {V : Type 0} (o : Option (Entry V)) (e : Entry V) (v : V) → o ≡ S
 value_of o e v there is = ap (λ o. unwrap_or o v) (sym (ap (λ o. option_map (λ e. e.value) o) there) ∙ is)
 
 -- it does with another value at a place, whose session goes on with as many key sessions
-pub sound_changed : {S : Type 0} (goes_on : S → Type 0) (count : S → ℕ) (core : ServerCore S) (ct : ClientTable (ClientState S)) (i : ℕ) (v w : ClientState S)
-    → IsSound goes_on count core → option_map (λ e. e.value) (slice_get (entries_of core.clients) i) ≡ Some v → goes_on w.session → count w.session ≡ count v.session
-    → IsChangedAt core i (table.with_value w) ct → IsSound goes_on count (record core { clients = ct })
-sound_changed goes_on count core ct i v w sound there goes same is = record {
-  sessions = subst (AllByRecursion (GoesOn goes_on count (core.events + 1))) (sym is.entries_are)
-      (all_changed (GoesOn goes_on count (core.events + 1)) (table.with_value w) (entries_of core.clients) i sound.sessions
+pub sound_changed : {S : Type 0} (goes_on : S → Type 0) (count since : S → ℕ) (core : ServerCore S) (ct : ClientTable (ClientState S)) (i : ℕ) (v w : ClientState S)
+    → IsSound goes_on count since core → option_map (λ e. e.value) (slice_get (entries_of core.clients) i) ≡ Some v → goes_on w.session → count w.session ≡ count v.session
+    → (since v.session ≤ core.moment.0 → since w.session ≤ core.moment.0) → IsChangedAt core i (table.with_value w) ct → IsSound goes_on count since (record core { clients = ct })
+sound_changed goes_on count since core ct i v w sound there goes same later is = record {
+  sessions = subst (AllByRecursion (GoesOn goes_on count since (core.events + 1) core.moment.0)) (sym is.entries_are)
+      (all_changed (GoesOn goes_on count since (core.events + 1) core.moment.0) (table.with_value w) (entries_of core.clients) i sound.sessions
       (λ e at. record {
         session = goes;
         few = subst (λ k. k ≤ core.events + 1) (sym (same ∙ sym (ap (λ v. count v.session) (value_of (slice_get (entries_of core.clients) i) e v at there))))
-            (all_at (GoesOn goes_on count (core.events + 1)) (entries_of core.clients) i e sound.sessions at).few;
+            (all_at (GoesOn goes_on count since (core.events + 1) core.moment.0) (entries_of core.clients) i e sound.sessions at).few;
+        past = later (subst (λ (v : ClientState _). since v.session ≤ core.moment.0) (value_of (slice_get (entries_of core.clients) i) e v at there)
+            (all_at (GoesOn goes_on count since (core.events + 1) core.moment.0) (entries_of core.clients) i e sound.sessions at).past);
       }));
   most = subst (λ k. k ≤ 4096) (sym is.most_is) sound.most;
   admitted = subst (λ k. k ≤ core.events) (sym is.admitted_is) sound.admitted;

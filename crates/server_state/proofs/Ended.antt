@@ -269,11 +269,11 @@ all_but P (x ∷ xs) (suc i) others =
 some_same : (i j : ℕ) → Some i ≡ Some j → i ≡ j
 some_same i j is = ap (λ (o : Option ℕ). unwrap_or o i) is
 
-pub sound_after : {S : Type 0} (goes_on : S → Type 0) (count : S → ℕ) (m : ℕ) (core : ServerCore S) (o : Option ℕ)
-    → table.place_of m (entries_of core.clients) ≡ o → IsSoundBut goes_on count m core
-    → AllByRecursion (GoesOn goes_on count (core.events + 1)) (table.without_where o (entries_of core.clients))
-sound_after goes_on count m core None place h =
-    all_of (GoesOn goes_on count (core.events + 1)) (entries_of core.clients) (λ j e there. h.sessions j e there (λ is. absurd (false≢true (ap is_some (sym place ∙ is)))))
-sound_after goes_on count m core (Some i) place h =
-    all_but (GoesOn goes_on count (core.events + 1)) (entries_of core.clients) i
+pub sound_after : {S : Type 0} (goes_on : S → Type 0) (count since : S → ℕ) (m : ℕ) (core : ServerCore S) (o : Option ℕ)
+    → table.place_of m (entries_of core.clients) ≡ o → IsSoundBut goes_on count since m core
+    → AllByRecursion (GoesOn goes_on count since (core.events + 1) core.moment.0) (table.without_where o (entries_of core.clients))
+sound_after goes_on count since m core None place h =
+    all_of (GoesOn goes_on count since (core.events + 1) core.moment.0) (entries_of core.clients) (λ j e there. h.sessions j e there (λ is. absurd (false≢true (ap is_some (sym place ∙ is)))))
+sound_after goes_on count since m core (Some i) place h =
+    all_but (GoesOn goes_on count since (core.events + 1) core.moment.0) (entries_of core.clients) i
     (λ j e there apart. h.sessions j e there (λ is. apart (some_same i j (sym place ∙ is))))

@@ -104,15 +104,16 @@ pub record CourseStands {S : Type 0} (means : S → Peer → Type 0) (before : L
 
 -- ---- what holds of every core
 
--- a client's session goes on, and has at most so many key sessions
-pub record GoesOn {S : Type 0} (goes_on : S → Type 0) (count : S → ℕ) (most : ℕ) (e : Entry (ClientState S)) : Type 0 where
+-- a client's session goes on, has at most so many key sessions, and was told no moment behind this one
+pub record GoesOn {S : Type 0} (goes_on : S → Type 0) (count since : S → ℕ) (most moment : ℕ) (e : Entry (ClientState S)) : Type 0 where
   pub session : goes_on e.value.session
   pub few : count e.value.session ≤ most
+  pub past : since e.value.session ≤ moment
 
 -- Every session goes on. An event begins at most one key session of a client, and two where it is admitted; it opens at most one
 -- connection of each client.
-pub record IsSound {S : Type 0} (goes_on : S → Type 0) (count : S → ℕ) (core : ServerCore S) : Type 0 where
-  pub sessions : AllByRecursion (GoesOn goes_on count (core.events + 1)) (entries_of core.clients)
+pub record IsSound {S : Type 0} (goes_on : S → Type 0) (count since : S → ℕ) (core : ServerCore S) : Type 0 where
+  pub sessions : AllByRecursion (GoesOn goes_on count since (core.events + 1) core.moment.0) (entries_of core.clients)
   pub most : most_of core.clients ≤ 4096
   pub admitted : admitted_by core.clients ≤ core.events
   pub connections : core.connections ≤ 2 ^ 13 * core.events

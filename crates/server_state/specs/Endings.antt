@@ -14,9 +14,9 @@ use Rattle.server_state.specs.declared.state.ServerCore.{ServerCore}
 use Rattle.server_state.specs.Core.{GoesOn}
 
 -- What holds of every core, but that the session of the client of this number need not go on: it ends now.
-pub record IsSoundBut {S : Type 0} (goes_on : S → Type 0) (count : S → ℕ) (n : ℕ) (core : ServerCore S) : Type 0 where
+pub record IsSoundBut {S : Type 0} (goes_on : S → Type 0) (count since : S → ℕ) (n : ℕ) (core : ServerCore S) : Type 0 where
   pub sessions : (i : ℕ) (e : Entry (ClientState S)) → slice_get (entries_of core.clients) i ≡ Some e → (place_of n (entries_of core.clients) ≡ Some i → ⊥)
-      → GoesOn goes_on count (core.events + 1) e
+      → GoesOn goes_on count since (core.events + 1) core.moment.0 e
   pub most : most_of core.clients ≤ 4096
   pub admitted : admitted_by core.clients ≤ core.events
   pub connections : core.connections ≤ 2 ^ 13 * core.events

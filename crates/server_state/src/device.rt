@@ -22,7 +22,7 @@ impl<S: ClientSession> ServerCore<S> {
         requires room { HasRoom out.old 1 0 }
         ensures queued { (before : List Action) (c : Course) → CourseStands S.stands before self.old out.old c →
             CourseStands S.stands before self.new out.new (queued cid.0 inner.now c) }
-        ensures sound { IsSound S.goes_on S.count self.old → IsSound S.goes_on S.count self.new }
+        ensures sound { IsSound S.goes_on S.count S.since self.old → IsSound S.goes_on S.count S.since self.new }
         ensures uses { Uses out.old out.new 1 0 }
     {
         if self.queue.is_full() {
@@ -38,7 +38,7 @@ impl<S: ClientSession> ServerCore<S> {
         requires { HasRoom out.old 1 1500 }
         ensures given { (before : List Action) (c : Course) → CourseStands S.stands before self.old out.old c →
             CourseStands S.stands before self.new out.new (device_ready c) }
-        ensures sound { IsSound S.goes_on S.count self.old → IsSound S.goes_on S.count self.new }
+        ensures sound { IsSound S.goes_on S.count S.since self.old → IsSound S.goes_on S.count S.since self.new }
         ensures uses { Uses out.old out.new 1 1500 }
     {
         match self.queue.front() {

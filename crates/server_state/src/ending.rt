@@ -86,7 +86,7 @@ impl<S: ClientSession + Drop> ServerCore<S> {
         requires turn { (cid.0 == self.old.turn.0 ≡ false) → self.old.mark ≡ 0 }
         ensures ended { (before : List Action) (c : Course) → CourseStands S.stands before self.old out.old c →
             CourseStands S.stands before self.new out.new (ended cid.0 cause c) }
-        ensures sound { IsSoundBut S.goes_on S.count cid.0 self.old → IsSound S.goes_on S.count self.new }
+        ensures sound { IsSoundBut S.goes_on S.count S.since cid.0 self.old → IsSound S.goes_on S.count S.since self.new }
         ensures uses { Uses out.old out.new 5 39 }
         ensures turn_stays { self.new.turn ≡ self.old.turn }
         ensures mark_stays { self.new.mark ≡ self.old.mark }

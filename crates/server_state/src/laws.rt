@@ -1,6 +1,6 @@
 //! Laws by which handlers prove that their core stands for the table still.
 
-ghost use Rattle.std.specs.Prelude.{◌≡◌, ◌+◌, ℕ, List, slice_get, option_map, Some, None, Result};
+ghost use Rattle.std.specs.Prelude.{◌≡◌, ◌+◌, ◌≤◌, ℕ, List, slice_get, option_map, Some, None, Result};
 ghost use Rattle.client_table.specs.declared.table.ClientTable.{ClientTable};
 ghost use Rattle.client_table.specs.Changes.{number_where, place_of, with_value};
 ghost use Rattle.client_table.specs.Finding.{has_name, has_peer_id, is_at};
@@ -34,9 +34,10 @@ pub fn places_tell_of_clients<S: ClientSession>()
 
 /// A core stays sound where one client has another value, whose session goes on with as many key sessions.
 pub fn a_changed_core_is_sound<S: ClientSession>()
-    ensures { (core : ServerCore S) (ct : ClientTable (ClientState S)) (i : ℕ) (v w : ClientState S) → IsSound S.goes_on S.count core →
+    ensures { (core : ServerCore S) (ct : ClientTable (ClientState S)) (i : ℕ) (v w : ClientState S) → IsSound S.goes_on S.count S.since core →
         option_map (λ e. e.value) (slice_get (entries_of core.clients) i) ≡ Some v → S.goes_on w.session → S.count w.session ≡ S.count v.session →
-        IsChangedAt core i (with_value w) ct → IsSound S.goes_on S.count (record core { clients = ct }) }
+        (S.since v.session ≤ core.moment.0 → S.since w.session ≤ core.moment.0) →
+        IsChangedAt core i (with_value w) ct → IsSound S.goes_on S.count S.since (record core { clients = ct }) }
 {}
 
 /// Clients are found in the table of clients as in the table for which the core stands.

@@ -55,6 +55,7 @@ impl<S: ClientSession> ClientState<S> {
         ensures file { self.new.file ≡ self.old.file }
         ensures goes_on { S.goes_on self.new.session }
         ensures count { S.count self.new.session ≡ S.count self.old.session }
+        ensures since { S.since self.new.session ≡ S.since self.old.session }
         ensures uses { Uses out.old out.new 1 1524 }
     {
         let place = out.count();
@@ -75,13 +76,13 @@ impl<S: ClientSession> ServerCore<S> {
     fn seal_at(&mut self, i: usize, to: Addr, target: Cid, inner: &[u8], out: &mut Outbox)
         requires short { length inner.now ≤ 1500 }
         requires room { HasRoom out.old 2 1524 }
-        requires sound { IsSound S.goes_on S.count self.old }
+        requires sound { IsSound S.goes_on S.count S.since self.old }
         requires place { place_of target.0 (entries_of self.old.clients) ≡ Some i }
         requires within { i < length (entries_of self.old.clients) }
         requires key { option_map (λ e. e.key.address) (slice_get (entries_of self.old.clients) i) ≡ Some to }
         ensures sealed { (before : List Action) (c : Course) → CourseStands S.stands before self.old out.old c →
             CourseStands S.stands before self.new out.new (server.sealed_to target.0 inner.now c) }
-        ensures sound { IsSound S.goes_on S.count self.new }
+        ensures sound { IsSound S.goes_on S.count S.since self.new }
         ensures uses { Uses out.old out.new 2 1524 }
     {
         client_table::lending_sets_the_value::<ClientState<S>>();
@@ -98,10 +99,10 @@ impl<S: ClientSession> ServerCore<S> {
     pub fn seal_to(&mut self, target: Cid, inner: &[u8], out: &mut Outbox)
         requires short { length inner.now ≤ 1500 }
         requires room { HasRoom out.old 2 1524 }
-        requires sound { IsSound S.goes_on S.count self.old }
+        requires sound { IsSound S.goes_on S.count S.since self.old }
         ensures sealed { (before : List Action) (c : Course) → CourseStands S.stands before self.old out.old c →
             CourseStands S.stands before self.new out.new (server.sealed_to target.0 inner.now c) }
-        ensures sound { IsSound S.goes_on S.count self.new }
+        ensures sound { IsSound S.goes_on S.count S.since self.new }
         ensures uses { Uses out.old out.new 2 1524 }
     {
         match self.clients.place(target) {

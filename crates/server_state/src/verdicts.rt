@@ -56,10 +56,10 @@ impl<S: ClientSession> ServerCore<S> {
     /// A packet of the device goes to the client that owns its destination, or is reported. It takes no memory.
     pub fn device_came(&mut self, inner: &[u8], out: &mut Outbox)
         requires room { HasRoom out.old 2 1524 }
-        requires sound { IsSound S.goes_on S.count self.old }
+        requires sound { IsSound S.goes_on S.count S.since self.old }
         ensures came { (before : List Action) (c : Course) → CourseStands S.stands before self.old out.old c →
             CourseStands S.stands before self.new out.new (device_came inner.now c) }
-        ensures sound { IsSound S.goes_on S.count self.new }
+        ensures sound { IsSound S.goes_on S.count S.since self.new }
         ensures uses { Uses out.old out.new 2 1524 }
     {
         let verdict = self.verdict_on(None, inner);
@@ -69,11 +69,11 @@ impl<S: ClientSession> ServerCore<S> {
     // By the verdict on a packet of the device.
     fn device_passed(&mut self, verdict: Verdict, inner: &[u8], out: &mut Outbox)
         requires room { HasRoom out.old 2 1524 }
-        requires sound { IsSound S.goes_on S.count self.old }
+        requires sound { IsSound S.goes_on S.count S.since self.old }
         requires short { IsShortTo verdict inner.now }
         ensures passed { (before : List Action) (c : Course) → CourseStands S.stands before self.old out.old c →
             CourseStands S.stands before self.new out.new (device_passed inner.now c verdict) }
-        ensures sound { IsSound S.goes_on S.count self.new }
+        ensures sound { IsSound S.goes_on S.count S.since self.new }
         ensures uses { Uses out.old out.new 2 1524 }
     {
         match verdict {

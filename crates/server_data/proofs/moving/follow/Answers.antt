@@ -29,7 +29,7 @@ pub returns-then-move_to-clause-sound : goal.returns-then-move_to-clause-sound
 returns-then-move_to-clause-sound g c sound =
     let core = c.args.core.now in
     let es = entries_of core.clients in
-    key_sound g.S.ClientSession.goes_on g.S.ClientSession.count core c.move_to.new.self (with_address c.args.from) (place_of c.args.cid.0 es)
+    key_sound g.S.ClientSession.goes_on g.S.ClientSession.count g.S.ClientSession.since core c.move_to.new.self (with_address c.args.from) (place_of c.args.cid.0 es)
     (subst (λ b. Has c.move_to.new.self (moved_if b c.args.cid.0 c.args.from es) (most_of core.clients) (admitted_by core.clients)) c.if-move_to.true c.move_to.ensures.moved)
     sound
 

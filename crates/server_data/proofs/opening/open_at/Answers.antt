@@ -10,7 +10,7 @@ carry-requires-clause-sound g c =
     let core = c.args.core.now in
     let w = c.open.new.client in
     c.follow.ensures.sound (c.accept.ensures.sound (c.a_changed_core_is_sound.ensures core (with_value_at core.clients c.args.i w) c.args.i c.value_at.result.now w
-    c.requires.sound c.value_at.ensures.value c.open.ensures.goes_on c.open.ensures.count
+    c.requires.sound c.value_at.ensures.value c.open.ensures.goes_on c.open.ensures.count (λ past. c.open.ensures.since)
     (record { entries_are = c.lending_sets_the_value.ensures core.clients c.args.i w; admitted_is = refl; most_is = refl })))
 
 pub returns-in-Ok-clause-came : goal.returns-in-Ok-clause-came
@@ -49,5 +49,5 @@ returns-in-Err-clause-sound g c =
     let core = c.args.core.now in
     let w = c.open.new.client in
     c.refuse.ensures.sound (c.a_changed_core_is_sound.ensures core (with_value_at core.clients c.args.i w) c.args.i c.value_at.result.now w
-    c.requires.sound c.value_at.ensures.value c.open.ensures.goes_on c.open.ensures.count
+    c.requires.sound c.value_at.ensures.value c.open.ensures.goes_on c.open.ensures.count (λ past. c.open.ensures.since)
     (record { entries_are = c.lending_sets_the_value.ensures core.clients c.args.i w; admitted_is = refl; most_is = refl }))

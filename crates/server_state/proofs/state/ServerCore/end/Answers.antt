@@ -11,7 +11,7 @@ returns-in_default-clause-ended g c before course h =
 
 pub returns-in_default-clause-sound : goal.returns-in_default-clause-sound
 returns-in_default-clause-sound g c h = record {
-  sessions = sound_after g.S.ClientSession.goes_on g.S.ClientSession.count c.args.cid.0 c.args.self.now _ (sym c.place.ensures.place ∙ c.in_default.is) h;
+  sessions = sound_after g.S.ClientSession.goes_on g.S.ClientSession.count g.S.ClientSession.since c.args.cid.0 c.args.self.now _ (sym c.place.ensures.place ∙ c.in_default.is) h;
   most = h.most;
   admitted = h.admitted;
   connections = h.connections;
@@ -33,9 +33,9 @@ returns-clause-ended g c before course h =
 
 pub returns-clause-sound : goal.returns-clause-sound
 returns-clause-sound g c h = record {
-  sessions = subst (λ es. AllByRecursion (GoesOn g.S.ClientSession.goes_on g.S.ClientSession.count (c.args.self.now.events + 1)) es)
+  sessions = subst (λ es. AllByRecursion (GoesOn g.S.ClientSession.goes_on g.S.ClientSession.count g.S.ClientSession.since (c.args.self.now.events + 1) c.args.self.now.moment.0) es)
       (sym c.remove.ensures.removed.entries_are)
-      (sound_after g.S.ClientSession.goes_on g.S.ClientSession.count c.args.cid.0 c.args.self.now _ refl h);
+      (sound_after g.S.ClientSession.goes_on g.S.ClientSession.count g.S.ClientSession.since c.args.cid.0 c.args.self.now _ refl h);
   most = subst (λ n. n ≤ 4096) (sym c.remove.ensures.removed.most_is) h.most;
   admitted = subst (λ n. n ≤ c.args.self.now.events) (sym c.remove.ensures.removed.admitted_is) h.admitted;
   connections = h.connections;

@@ -1,4 +1,4 @@
-use Rattle.std.proofs.Common.{refl}
+use Rattle.std.proofs.Common.{◌≤◌, refl, subst, sym}
 use Rattle.client_table.specs.Tables.{with_value_at}
 use Rattle.server_state.proofs.Changed.{sound_changed}
 use Rattle.server_state.proofs.Sealed.{err_sealed, ok_sealed}
@@ -18,8 +18,8 @@ returns-in-Ok-clause-sound g c =
     let core = c.args.self.now in
     let v = c.value_at.result.now in
     let w = c.seal.new.self in
-    let s = sound_changed g.S.ClientSession.goes_on g.S.ClientSession.count core (with_value_at core.clients c.args.i w) c.args.i v w c.requires.sound
-    c.value_at.ensures.value c.seal.ensures.goes_on c.seal.ensures.count (record { entries_are = c.lending_sets_the_value.ensures core.clients c.args.i w; admitted_is = refl; most_is = refl }) in
+    let s = sound_changed g.S.ClientSession.goes_on g.S.ClientSession.count g.S.ClientSession.since core (with_value_at core.clients c.args.i w) c.args.i v w c.requires.sound
+    c.value_at.ensures.value c.seal.ensures.goes_on c.seal.ensures.count (λ past. subst (λ n. n ≤ core.moment.0) (sym c.seal.ensures.since) past) (record { entries_are = c.lending_sets_the_value.ensures core.clients c.args.i w; admitted_is = refl; most_is = refl }) in
     record { sessions = s.sessions; most = s.most; admitted = s.admitted; connections = s.connections }
 
 pub returns-in-Err-clause-sealed : goal.returns-in-Err-clause-sealed
@@ -36,5 +36,5 @@ returns-in-Err-clause-sound g c =
     let core = c.args.self.now in
     let v = c.value_at.result.now in
     let w = c.seal.new.self in
-    sound_changed g.S.ClientSession.goes_on g.S.ClientSession.count core (with_value_at core.clients c.args.i w) c.args.i v w c.requires.sound
-    c.value_at.ensures.value c.seal.ensures.goes_on c.seal.ensures.count (record { entries_are = c.lending_sets_the_value.ensures core.clients c.args.i w; admitted_is = refl; most_is = refl })
+    sound_changed g.S.ClientSession.goes_on g.S.ClientSession.count g.S.ClientSession.since core (with_value_at core.clients c.args.i w) c.args.i v w c.requires.sound
+    c.value_at.ensures.value c.seal.ensures.goes_on c.seal.ensures.count (λ past. subst (λ n. n ≤ core.moment.0) (sym c.seal.ensures.since) past) (record { entries_are = c.lending_sets_the_value.ensures core.clients c.args.i w; admitted_is = refl; most_is = refl })
