@@ -5,3 +5,4 @@ mod Waiting
 mod Sealed
 mod Changed
 mod Short
+mod Counted
