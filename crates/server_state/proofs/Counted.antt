@@ -1,19 +1,17 @@
 -- How many clients are here, and which peer ids are free.
-use Rattle.std.proofs.Common.{◌≡◌, ◌≤◌, ◌<◌, ℕ, zero, suc, ◌+◌, max, ◌==◌, Bool, true, false, cond, List, [], ◌∷◌, length, count_by, refl, sym, ap, subst, ◌∙◌, ⊎_elim, arith}
+use Rattle.std.proofs.Common.{◌≡◌, ◌≤◌, ◌<◌, ℕ, zero, suc, ◌+◌, max, ◌==◌, Bool, true, false, cond, List, [], ◌∷◌, length, count_by, refl, sym, ap, ◌∙◌, ⊎_elim, arith}
 use Rattle.std.specs.Prelude.{◌&&◌, ◌||◌, nat_le, nat_lt, not}
 use Rattle.std.specs.List.{list_any}
 use Rattle.std.proofs.lemmas.Bool.{cases_lt, false≢true}
 use Rattle.std.proofs.lemmas.Grind.{common_steps}
 use Rattle.std.proofs.lemmas.List.Sums.{sum_by-cons}
 use Rattle.client_table.specs.Changes.{by_key}
-use Rattle.client_table.specs.Entries.{Entry}
 use Rattle.client_table.specs.Finding as keys
 use Rattle.client_table.specs.PeerIds.{IsLeastUnused}
 use Rattle.client_table.specs.Tables.{entries_of, most_of}
 use Rattle.peer_table.specs.Peer.{Peer}
 use Rattle.server_table.specs.Lookups.{free_peer_id, greatest_peer_id, has_peer_id, is_full, unless_used, unused_from}
 use Rattle.server_table.specs.Table.{Client, Table}
-use Rattle.server_state.specs.declared.client.ClientState.{ClientState}
 use Rattle.server_state.specs.declared.state.ServerCore.{ServerCore}
 use Rattle.server_state.specs.Core.{CoreStands, IsOfClient}
 use Rattle.server_state.specs.Standing.{FirstStands, StandFrom}
@@ -78,6 +76,7 @@ used_at_most p (x ∷ clients) e = step x.is_here (x.peer_id == p) (list_any (ha
   where
     same : (a b : ℕ) → (a == b) ≡ true → a ≡ b
     same a b e = grind (arith, common_steps)
+
     step : (h q rest : Bool) → (x.peer_id == p) ≡ q → ((h && q) || rest) ≡ true → (rest ≡ true → p ≤ greatest_peer_id clients) → p ≤ max x.peer_id (greatest_peer_id clients)
     step true true rest is e ih = omega (arith, same x.peer_id p is)
     step true false rest is e ih = omega (arith, ih e)
@@ -97,10 +96,10 @@ finds : (most n u : ℕ) (clients : List Client) → n ≤ u → u ≤ n + most 
 finds zero n u clients from to free used = omega (arith, from, to)
 finds (suc most) n u clients from to free used =
     ⊎_elim (λ (lt : n < u). passed (list_any (has_peer_id n) clients) n (unused_from most (suc n) clients) u (used n lt)
-        (finds most (suc n) u clients (omega (arith, lt)) (omega (arith, to)) free used))
+    (finds most (suc n) u clients (omega (arith, lt)) (omega (arith, to)) free used))
     (λ (le : u ≤ n).
-      let same : n ≡ u = omega (arith, from, le) in
-      stopped (list_any (has_peer_id n) clients) n (unused_from most (suc n) clients) (ap (λ m. list_any (has_peer_id m) clients) same ∙ free) ∙ same)
+    let same : n ≡ u = omega (arith, from, le) in
+    stopped (list_any (has_peer_id n) clients) n (unused_from most (suc n) clients) (ap (λ m. list_any (has_peer_id m) clients) same ∙ free) ∙ same)
     (cases_lt n u)
 
 at_most_next : (u : ℕ) (clients : List Client) → ((m : ℕ) → m < u → list_any (has_peer_id m) clients ≡ true) → u ≤ suc (greatest_peer_id clients)
@@ -112,9 +111,9 @@ pub free_is : {S : Type 0} (means : S → Peer → Type 0) (core : ServerCore S)
 unfolding free_peer_id
 free_is means core t u h least =
     let same : (p : ℕ) → list_any (by_key (keys.has_peer_id p)) (entries_of core.clients) ≡ list_any (has_peer_id p) t.clients =
-            λ p. any_is (IsOfClient means) (by_key (keys.has_peer_id p)) (has_peer_id p)
-                (λ e n x is here. ap (λ q. q == p) is.peer_id ∙ sym (ap (λ b. b && (x.peer_id == p)) here))
-                (λ x gone. ap (λ b. b && (x.peer_id == p)) gone)
-                t.clients (entries_of core.clients) 0 h.clients in
+    λ p. any_is (IsOfClient means) (by_key (keys.has_peer_id p)) (has_peer_id p)
+    (λ e n x is here. ap (λ q. q == p) is.peer_id ∙ sym (ap (λ b. b && (x.peer_id == p)) here))
+    (λ x gone. ap (λ b. b && (x.peer_id == p)) gone)
+    t.clients (entries_of core.clients) 0 h.clients in
     let used : (m : ℕ) → m < u → list_any (has_peer_id m) t.clients ≡ true = λ m lt. sym (same m) ∙ least.least m lt in
     sym (finds (suc (greatest_peer_id t.clients)) 0 u t.clients (omega arith) (omega (arith, at_most_next u t.clients used)) (sym (same u) ∙ least.unused) used)

@@ -6,3 +6,4 @@ mod Sealed
 mod Changed
 mod Short
 mod Counted
+mod Comings

@@ -1,17 +1,20 @@
 //! Laws by which handlers prove that their core stands for the table still.
 
-ghost use Rattle.std.specs.Prelude.{◌≡◌, ℕ, List, slice_get, option_map, Some, None};
+ghost use Rattle.std.specs.Prelude.{◌≡◌, ℕ, true, false, [], ◌∷◌, ◌++◌, length, List, slice_get, option_map, Some, None};
 ghost use Rattle.client_table.specs.declared.table.ClientTable.{ClientTable};
-ghost use Rattle.client_table.specs.Changes.{number_where, place_of, with_value};
+ghost use Rattle.client_table.specs.Changes.{number_where, place_of, with_value, without};
 ghost use Rattle.client_table.specs.Finding.{has_name, has_peer_id, is_at};
 ghost use Rattle.client_table.specs.Tables.{entries_of};
 ghost use Rattle.vpn_base.specs.declared.address.Addr.{Addr};
 ghost use Rattle.vpn_base.specs.declared.names.Sid.{Sid};
 ghost use Rattle.server_table.specs.Lookups.{by_peer_id, by_session, client_here, established_named};
-ghost use Rattle.server_table.specs.Table.{Table};
+ghost use Rattle.server_table.specs.Table.{Client, Table};
 ghost use Rattle.server_state.specs.declared.client.ClientState.{ClientState};
 ghost use Rattle.server_state.specs.declared.state.ServerCore.{ServerCore};
-ghost use Rattle.server_state.specs.Core.{CoreStands, IsSound};
+ghost use Rattle.server_state.specs.Core.{CoreStands, IsOfClient, IsSound};
+ghost use Rattle.client_table.specs.Entries.{Entry};
+ghost use Rattle.peer_table.specs.Places.{changed_at};
+ghost use Rattle.server_state.specs.Standing.{StandFrom};
 ghost use Rattle.server_state.specs.Places.{IsChangedAt, IsThere};
 
 use peer_table::ClientSession;
@@ -40,4 +43,14 @@ pub fn clients_are_found_alike<S: ClientSession>()
         option_map (λ cid. cid.0) (number_where (is_at from sid) (entries_of core.clients)) ≡ by_session t from sid }
     ensures name { (core : ServerCore S) (t : Table) (name : List ℕ) → CoreStands S.stands core t →
         option_map (λ cid. cid.0) (number_where (has_name name) (entries_of core.clients)) ≡ established_named t name }
+{}
+
+/// One client more stands behind all others, and one that goes is taken out under its number, in the table of
+/// clients as in the table for which the core stands.
+#[tactic(auto, using(crate::proofs::Comings::comes, crate::proofs::Comings::goes))]
+pub fn clients_come_and_go_alike<S: ClientSession>()
+    ensures comes { (core : ServerCore S) (t : Table) (e : Entry (ClientState S)) (x : Client) → CoreStands S.stands core t → IsOfClient S.stands e (length t.clients) x →
+        x.is_here ≡ true → StandFrom (IsOfClient S.stands) (entries_of core.clients ++ e ∷ []) 0 (t.clients ++ x ∷ []) }
+    ensures goes { (core : ServerCore S) (t : Table) (m : ℕ) (g : Client → Client) → CoreStands S.stands core t → ((y : Client) → (g y).is_here ≡ false) →
+        StandFrom (IsOfClient S.stands) (without m (entries_of core.clients)) 0 (changed_at m g t.clients) }
 {}

@@ -15,7 +15,10 @@ mod verdicts;
 
 pub use client::{ClientFile, ClientState};
 pub use effects::put;
-pub use laws::{a_changed_core_is_sound, clients_are_found_alike, places_tell_of_clients};
+pub use laws::{
+    a_changed_core_is_sound, clients_are_found_alike, clients_come_and_go_alike,
+    places_tell_of_clients,
+};
 pub use packet::Packet;
 pub use queue::DeviceQueue;
 pub use room::peer_ids_are_given_alike;
