@@ -7,3 +7,4 @@ mod Changed
 mod Short
 mod Counted
 mod Comings
+mod Made

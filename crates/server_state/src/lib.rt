@@ -6,6 +6,7 @@ mod device;
 mod effects;
 mod laws;
 mod lookups;
+mod making;
 mod packet;
 mod queue;
 mod room;
