@@ -36,3 +36,42 @@ fn last_in(net: Prefix) -> Ip4
 {
     Ip4((u64::from(net.net().0) + (1u64 << (32 - net.len())) - 2) as u32)
 }
+
+impl<S: ClientSession> ServerCore<S> {
+    /// A core to which nothing has come, with the settings of a server. It takes the memory of the queue to
+    /// the packet device.
+    pub fn make(
+        alloc: Global,
+        settings: Settings,
+        key: StaticKey,
+    ) -> Result<ServerCore<S>, NoMemory>
+        requires bounded { IsBounded settings }
+        requires server { settings.role ≡ Server }
+        ensures made { IfOk result (λ core. CoreStands S.stands core (table_begun settings key.0)) }
+        ensures sound { IfOk result (λ core. IsSound S.goes_on S.count core) }
+    {
+        let Some(net) = settings.net else {
+            unreachable!()
+        };
+        let most = settings.max_clients;
+        let routes = RouteTable::new(alloc)?;
+        let queue = DeviceQueue::make(alloc)?;
+        Ok(ServerCore {
+            settings,
+            key,
+            clients: ClientTable::new(alloc, most),
+            routes,
+            pool: Pool::new(alloc, first_in(net), last_in(net)),
+            queue,
+            moment: Moment(0),
+            connections: 0,
+            bytes_in: 0,
+            bytes_out: 0,
+            count_interval: 0,
+            counted_at: Moment(0),
+            is_stopped: false,
+            events: 0,
+            last_taken: None,
+        })
+    }
+}
