@@ -1,4 +1,10 @@
-//! What belongs to one key session.
+//! What belongs to one key session: its control link, its plain text and its data channel.
 #![tactic(auto)]
 
+mod blank;
 mod channels;
+mod data;
+mod plain;
+
+pub use blank::SessionBlank;
+pub use channels::SessionChannels;
