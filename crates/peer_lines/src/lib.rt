@@ -3,6 +3,7 @@
 
 mod blank;
 mod channels;
+mod control;
 mod data;
 mod plain;
 
