@@ -1,2 +1,3 @@
 pub mod Nuls
 pub mod Packets
+pub mod Links
