@@ -1,3 +1,4 @@
 pub mod Nuls
 pub mod Packets
 pub mod Links
+pub mod Texts

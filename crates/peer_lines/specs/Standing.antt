@@ -1,6 +1,5 @@
 -- What a key session carries of its own, its control link, its unread plain text and its data channel, and the sessions for which that stands.
 use Rattle.std.specs.Prelude.{◌≡◌, ℕ, ◌≤◌, Bool, true, false, List, [], ◌∷◌, length, drop, Option, Some, None}
-use Rattle.std.specs.List.{All}
 use Rattle.vpn_base.specs.declared.names.Timers.{Timers}
 use Rattle.gcm_seal.specs.declared.gcm.AnyGcm.{AnyGcm}
 use Rattle.packet_ids.specs.Freshness.{begun}
@@ -40,7 +39,8 @@ DataStands window (channel ∷ more) s = IsKeyedBy channel s (keys_of s.stage)
 
 -- no payload that was taken is longer
 abbrev pub NoneIsLonger : ℕ → List Arrival → Type 0
-NoneIsLonger longest taken = All (λ a. length a.1 ≤ longest) taken
+NoneIsLonger longest [] = Unit {0}
+NoneIsLonger longest (a ∷ taken) = (length a.1 ≤ longest) × NoneIsLonger longest taken
 
 -- its link and its data channel stand for those of the session, it holds the plain text that was not read, and no payload is longer than it says
 pub record IsOfSession (c : SessionChannels) (s : Session) : Type 0 where

@@ -6,6 +6,7 @@ mod channels;
 mod control;
 mod data;
 mod plain;
+mod reading;
 
 pub use blank::SessionBlank;
 pub use channels::SessionChannels;
