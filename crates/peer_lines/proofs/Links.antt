@@ -29,7 +29,7 @@ pub record Frame (before after : Link) : Type 0 where
   pub kid : after.kid ≡ before.kid
   pub taken : after.receiving.taken ≡ before.receiving.taken
 
-same_frame : (l : Link) → Frame l l
+pub same_frame : (l : Link) → Frame l l
 same_frame l = record { kid = refl; taken = refl }
 
 frame_if : (l : Link) (b : Bool) (o p : Outcome) → Frame l o.link → Frame l p.link → Frame l (if b then o else p).link

@@ -1,6 +1,6 @@
 //! Control packets of one key session, and the text that they bring to the TLS engine.
 
-ghost use Rattle.std.specs.Prelude.{◌≡◌, ◌≤◌, ◌<◌, ◌+◌, ◌*◌, ◌^◌, ℕ, List, [], ◌∷◌, ◌++◌, length, false, max, None, IsOk, IfOk, IfSome, OnOk, OnErr};
+ghost use Rattle.std.specs.Prelude.{◌≡◌, ◌≤◌, ◌<◌, ◌+◌, ◌*◌, ◌^◌, ℕ, List, [], ◌∷◌, ◌++◌, length, false, max, None, IsOk, IfOk, IfSome, IfNone, OnOk, OnErr};
 ghost use Rattle.vpn_base.specs.declared.names.Role.{Role};
 ghost use Rattle.vpn_links.specs.Actions.{Holds};
 ghost use Rattle.opcode_codec.specs.ControlText.{control_form};
@@ -14,7 +14,8 @@ ghost use Rattle.peer_table.specs.KeySessions.{Session};
 ghost use Rattle.peer_table.specs.Outboxes.{HasRoom, Uses, actions_of};
 ghost use Rattle.peer_lines.specs.Calls.{Leaves, packet_taken, still, unless_wanting};
 ghost use Rattle.peer_lines.specs.Standing.{NoneIsLonger, StandsFor, has_data};
-ghost use Rattle.peer_lines.specs.Rooms.{data_room, longest, payload_room, plain_room, text_room};
+ghost use Rattle.peer_lines.specs.internal.Packets.{ends_spent};
+ghost use Rattle.peer_lines.specs.Rooms.{longest, payload_room};
 
 use crate::channels::SessionChannels;
 use control_link::{ControlLink, Envelope, LinkEnd};
@@ -25,6 +26,12 @@ use vpn_links::{ControlText, Effect, Outbox};
 
 // No more payloads than so many are in order once a packet was taken.
 const MOST_PUT: usize = 12;
+
+// As many effects and datagrams come of a packet at most: 6 datagrams, and each payload.
+const MOST: usize = 18;
+
+// As many bytes have the datagrams at most.
+const SENT_BYTES: usize = 7_200;
 
 // Puts a payload to the engine, if it is not empty.
 fn put_text(conn: Conn, payload: &[u8], out: &mut Outbox) -> Result<(), NoMemory>
@@ -96,10 +103,79 @@ fn take_packet<W: Wrap + Drop>(
         IfOk result (λ end. (received l h (control_form view.now) remote now.0).end ≡ end) }
     ensures fits { HasRoom out.old 6 7200 → length view.now.payload.now ≤ link.old.receiving.spare → IsOk result }
     ensures uses { Uses out.old out.new 6 7200 }
+    ensures spent { link.new.spent ≡ ends_spent result }
 {
     match link.on_packet(view, env, remote, to, now, out) {
         Ok(_) => Ok(None),
         Err(Or::Why(end)) => Ok(Some(end)),
         Err(Or::Memory) => Err(NoMemory),
+    }
+}
+
+impl SessionChannels {
+    /// For how many bytes an outbox has to have room, beside 18 effects, so that a control packet with a payload of so
+    /// many bytes takes no memory. None comes where that is no number of bytes.
+    #[tactic(auto, unfolding(crate::specs::Rooms::longest))]
+    pub fn packet_room(&self, payload: usize) -> Option<usize>
+        ensures room { IfSome result (λ n. n ≡ 7200 + 12 * max (longest self.now) payload) }
+        ensures none { IfNone result (2 ^ 64 ≤ 7200 + 12 * max (longest self.now) payload) }
+    {
+        let texts = match MOST_PUT.checked_mul(self.longest.max(payload)) {
+            None => return None,
+            Some(texts) => texts,
+        };
+        texts.checked_add(SENT_BYTES)
+    }
+
+    /// Takes a control packet: its acknowledgements count, its payload is held, it is acknowledged, what may be sent is
+    /// sent, and each payload that is in order now and not empty is put to the engine, as an effect. It takes no memory
+    /// where the payload fits the room that was taken ahead, and the outbox has room for 18 effects and the bytes of
+    /// `packet_room`.
+    #[tactic(auto, unfolding(crate::specs::Standing::has_data))]
+    pub fn on_packet<W: Wrap + Drop>(
+        &mut self,
+        view: &ControlView<'_>,
+        env: &mut Envelope<W>,
+        remote: Sid,
+        to: Addr,
+        now: Moment,
+        out: &mut Outbox,
+    ) -> Result<(), Or<LinkEnd>>
+        requires acks { view.now.acks.count ≤ 8 }
+        requires open { self.old.link.spent ≡ false }
+        ensures left { (s : Session) → (h : EnvelopeHistory) → StandsFor self.old s → EnvelopeStands W.wrapped env.old h →
+            Leaves W.wrapped self.new env.new out.old out.new to (unless_wanting result (packet_taken s h (control_form view.now) remote now.0) (still s h)) }
+        ensures answer { (s : Session) → (h : EnvelopeHistory) → StandsFor self.old s → EnvelopeStands W.wrapped env.old h →
+            Told result (packet_taken s h (control_form view.now) remote now.0).end }
+        ensures spent { (s : Session) → (h : EnvelopeHistory) → StandsFor self.old s → EnvelopeStands W.wrapped env.old h →
+            self.new.link.spent ≡ tells_spent result }
+        ensures fits { (s : Session) → (h : EnvelopeHistory) → StandsFor self.old s → EnvelopeStands W.wrapped env.old h →
+            (room : ℕ) → room < 2 ^ 64 → 7200 + 12 * max (longest self.old) (length view.now.payload.now) ≤ room →
+            HasRoom out.old 18 room → length view.now.payload.now ≤ payload_room self.old → IsNotMemory result }
+        ensures uses { (s : Session) → (h : EnvelopeHistory) → StandsFor self.old s → EnvelopeStands W.wrapped env.old h →
+            Uses out.old out.new 18 (7200 + 12 * max (longest self.old) (length view.now.payload.now)) }
+        ensures there { has_data self.new ≡ has_data self.old }
+    {
+        let room = match self.packet_room(view.payload.len()) {
+            None => return Err(Or::Memory),
+            Some(room) => room,
+        };
+        match out.reserve(MOST, room) {
+            Ok(()) => {}
+            Err(NoMemory) => return Err(Or::Memory),
+        }
+        let end = match take_packet(&mut self.link, view, env, remote, to, now, out) {
+            Ok(end) => end,
+            Err(NoMemory) => return Err(Or::Memory),
+        };
+        self.longest = self.longest.max(view.payload.len());
+        match put_texts(MOST_PUT, self.link.conn(), &mut self.link, out) {
+            Ok(()) => {}
+            Err(NoMemory) => return Err(Or::Memory),
+        }
+        match end {
+            None => Ok(()),
+            Some(end) => Err(Or::Why(end)),
+        }
     }
 }

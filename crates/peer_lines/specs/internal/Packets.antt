@@ -1,5 +1,9 @@
 -- The parts of a session's data channel.
-use Rattle.std.specs.Prelude.{ℕ, List, [], ◌∷◌, Option, Some, None}
+use Rattle.std.specs.Prelude.{ℕ, Bool, false, List, [], ◌∷◌, Option, Some, None, Result, Ok, Err}
+use Rattle.vpn_base.specs.declared.errors.NoMemory.{NoMemory}
+use Rattle.vpn_base.specs.declared.errors.Or.TheVariants.{Why}
+use Rattle.control_link.specs.declared.link.LinkEnd.{LinkEnd}
+use Rattle.control_link.specs.Calls.{tells_spent}
 use Rattle.gcm_seal.specs.declared.gcm.AnyGcm.{AnyGcm}
 use Rattle.packet_ids.specs.Freshness.{History}
 use Rattle.packet_ids.specs.Window.{Kept, Stands}
@@ -25,3 +29,8 @@ IsFirst (channel ∷ more) keys kid received = GcmKeysStand channel keys kid rec
 abbrev pub fault_of : DataFault → SessionFault
 fault_of packets.NotSealed = sessions.NotSealed
 fault_of (packets.Stale kind id greatest) = sessions.Stale kind id greatest
+
+-- whether a packet came to the end of the wrap ids
+abbrev pub ends_spent : Result (Option LinkEnd) NoMemory → Bool
+ends_spent (Ok (Some end)) = tells_spent {A = Unit {0}} (Err (Why end))
+ends_spent _ = false

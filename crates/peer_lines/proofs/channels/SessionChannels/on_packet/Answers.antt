@@ -1,0 +1,148 @@
+use Rattle.std.proofs.Common.{◌≡◌, ◌≤◌, ◌<◌, ◌+◌, ◌*◌, ◌^◌, ℕ, length, max, false, true, None, Some, Result, Err, sym, ◌∙◌, arith}
+use Rattle.std.proofs.lemmas.Bool.{false≢true}
+use Rattle.vpn_base.specs.declared.errors.Or.{Or}
+use Rattle.vpn_base.specs.declared.errors.Or.TheVariants.{Memory}
+use Rattle.opcode_codec.specs.ControlText.{ControlForm, control_form}
+use Rattle.control_link.specs.declared.link.LinkEnd.{LinkEnd}
+use Rattle.control_link.specs.Calls.{Outcome, received, unchanged}
+use Rattle.peer_table.specs.Outboxes.{HasRoom}
+use Rattle.peer_lines.specs.Calls.{packet_taken, still}
+use Rattle.peer_lines.specs.Rooms.{longest, payload_room}
+use Rattle.peer_lines.specs.Standing.{StandsFor}
+use Rattle.peer_lines.proofs.Links.{linked_left, same_frame}
+use Rattle.peer_lines.proofs.Taking.{left_reserved, taken_left}
+use Rattle.peer_lines.proofs.Texts.{none_longer_received}
+use Rattle.peer_lines.proofs.channels.SessionChannels.on_packet.Goals as goal
+
+pub returns-in-Err-take_packet-clause-left : goal.returns-in-Err-take_packet-clause-left
+unfolding StandsFor
+returns-in-Err-take_packet-clause-left g c = λ s h stands wraps.
+    let wanting : Result (Unit {0}) (Or LinkEnd) = Err Memory in
+    left_reserved g.W.Wrap.wrapped (record c.args.self.now { link = c.take_packet.new.link }) c.take_packet.new.env c.args.out.now c.reserve.new.self c.take_packet.new.out c.args.to (still s h)
+    c.reserve.ensures.same
+    (linked_left g.W.Wrap.wrapped c.args.self.now c.take_packet.new.link c.take_packet.new.env c.reserve.new.self c.take_packet.new.out c.args.to s h
+        (unchanged s.link h None) wanting stands (same_frame s.link) (c.in-Err-take_packet.ensures.kept s.link h stands.link wraps))
+
+pub returns-in-Err-take_packet-clause-fits : goal.returns-in-Err-take_packet-clause-fits
+unfolding payload_room
+returns-in-Err-take_packet-clause-fits g c = λ s h stands wraps room small enough has payload.
+    let given : HasRoom c.reserve.new.self 6 7200 = record {
+      effects_fit = omega (arith, c.in-Ok.ensures.ok.0);
+      bytes_fit = omega (arith, c.in-Ok.ensures.ok.1, c.in-Some.ensures.room);
+    } in
+    absurd (false≢true (c.in-Err-take_packet.ensures.fits given payload))
+
+pub returns-in-Err-put_texts-clause-left : goal.returns-in-Err-put_texts-clause-left
+unfolding StandsFor longest
+returns-in-Err-put_texts-clause-left g c = λ s h stands wraps.
+    let v : ControlForm = control_form c.args.view.now in
+    let o : Outcome = received s.link h v c.args.remote c.args.now.0 in
+    let left = c.in-Ok-take_packet.ensures.taken s.link h stands.link wraps in
+    let none = none_longer_received c.args.self.now.longest c.max-self.result s.link h v c.args.remote c.args.now.0 c.max-self.ensures stands.longest in
+    let ok = c.in-Ok.ensures.ok in
+    let room = c.in-Some.ensures.room in
+    let uses = c.take_packet.ensures.uses in
+    let wants = c.in-Err-put_texts.ensures.fits o.link c.max-self.result left.link none
+        (omega (arith, ok.0, uses.effects_left)) (omega (arith, ok.1, room, uses.bytes_left, c.max-self.ensures)) in
+    absurd (false≢true wants)
+
+pub returns-in-Err-put_texts-clause-spent : goal.returns-in-Err-put_texts-clause-spent
+unfolding StandsFor longest
+returns-in-Err-put_texts-clause-spent g c = λ s h stands wraps.
+    let v : ControlForm = control_form c.args.view.now in
+    let o : Outcome = received s.link h v c.args.remote c.args.now.0 in
+    let left = c.in-Ok-take_packet.ensures.taken s.link h stands.link wraps in
+    let none = none_longer_received c.args.self.now.longest c.max-self.result s.link h v c.args.remote c.args.now.0 c.max-self.ensures stands.longest in
+    let ok = c.in-Ok.ensures.ok in
+    let room = c.in-Some.ensures.room in
+    let uses = c.take_packet.ensures.uses in
+    let wants = c.in-Err-put_texts.ensures.fits o.link c.max-self.result left.link none
+        (omega (arith, ok.0, uses.effects_left)) (omega (arith, ok.1, room, uses.bytes_left, c.max-self.ensures)) in
+    absurd (false≢true wants)
+
+pub returns-in-Err-put_texts-clause-fits : goal.returns-in-Err-put_texts-clause-fits
+unfolding StandsFor longest
+returns-in-Err-put_texts-clause-fits g c = λ s h stands wraps n small enough has payload.
+    let v : ControlForm = control_form c.args.view.now in
+    let o : Outcome = received s.link h v c.args.remote c.args.now.0 in
+    let left = c.in-Ok-take_packet.ensures.taken s.link h stands.link wraps in
+    let none = none_longer_received c.args.self.now.longest c.max-self.result s.link h v c.args.remote c.args.now.0 c.max-self.ensures stands.longest in
+    let ok = c.in-Ok.ensures.ok in
+    let room = c.in-Some.ensures.room in
+    let uses = c.take_packet.ensures.uses in
+    let wants = c.in-Err-put_texts.ensures.fits o.link c.max-self.result left.link none
+        (omega (arith, ok.0, uses.effects_left)) (omega (arith, ok.1, room, uses.bytes_left, c.max-self.ensures)) in
+    absurd (false≢true wants)
+
+pub returns-in-Err-put_texts-clause-uses : goal.returns-in-Err-put_texts-clause-uses
+unfolding StandsFor longest
+returns-in-Err-put_texts-clause-uses g c = λ s h stands wraps.
+    let v : ControlForm = control_form c.args.view.now in
+    let o : Outcome = received s.link h v c.args.remote c.args.now.0 in
+    let left = c.in-Ok-take_packet.ensures.taken s.link h stands.link wraps in
+    let none = none_longer_received c.args.self.now.longest c.max-self.result s.link h v c.args.remote c.args.now.0 c.max-self.ensures stands.longest in
+    let ok = c.in-Ok.ensures.ok in
+    let room = c.in-Some.ensures.room in
+    let uses = c.take_packet.ensures.uses in
+    let wants = c.in-Err-put_texts.ensures.fits o.link c.max-self.result left.link none
+        (omega (arith, ok.0, uses.effects_left)) (omega (arith, ok.1, room, uses.bytes_left, c.max-self.ensures)) in
+    absurd (false≢true wants)
+
+pub returns-in-None-end-clause-left : goal.returns-in-None-end-clause-left
+unfolding StandsFor
+returns-in-None-end-clause-left g c = λ s h stands wraps.
+    let v : ControlForm = control_form c.args.view.now in
+    let o : Outcome = received s.link h v c.args.remote c.args.now.0 in
+    let left = c.in-Ok-take_packet.ensures.taken s.link h stands.link wraps in
+    taken_left g.W.Wrap.wrapped c.args.self.now c.put_texts.new.link c.max-self.result c.take_packet.new.env c.args.out.now c.reserve.new.self c.take_packet.new.out c.put_texts.new.out
+    c.args.to s h v c.args.remote c.args.now.0 c.conn.result c.take_packet.new.link stands c.max-self.ensures c.reserve.ensures.same left
+    (c.in-Ok-put_texts.ensures.stands o.link left.link) (λ end. c.in-Ok-put_texts.ensures.put o.link end left.link) (c.conn.ensures o.link left.link)
+
+pub returns-in-None-end-clause-answer : goal.returns-in-None-end-clause-answer
+unfolding StandsFor packet_taken
+returns-in-None-end-clause-answer g c = λ s h stands wraps. c.in-Ok-take_packet.ensures.end s.link h stands.link wraps ∙ c.in-None-end.is
+
+pub returns-in-None-end-clause-uses : goal.returns-in-None-end-clause-uses
+unfolding StandsFor longest
+returns-in-None-end-clause-uses g c = λ s h stands wraps.
+    let v : ControlForm = control_form c.args.view.now in
+    let o : Outcome = received s.link h v c.args.remote c.args.now.0 in
+    let left = c.in-Ok-take_packet.ensures.taken s.link h stands.link wraps in
+    let none = none_longer_received c.args.self.now.longest c.max-self.result s.link h v c.args.remote c.args.now.0 c.max-self.ensures stands.longest in
+    let grows = c.reserve.ensures.grows in
+    let uses = c.take_packet.ensures.uses in
+    let puts = c.put_texts.ensures.uses o.link c.max-self.result left.link none in
+    record {
+      effects_left = omega (arith, grows.0, uses.effects_left, puts.0);
+      bytes_left = omega (arith, grows.1, uses.bytes_left, puts.1, c.max-self.ensures);
+    }
+
+pub returns-in-Some-end-clause-left : goal.returns-in-Some-end-clause-left
+unfolding StandsFor
+returns-in-Some-end-clause-left g c = λ s h stands wraps.
+    let v : ControlForm = control_form c.args.view.now in
+    let o : Outcome = received s.link h v c.args.remote c.args.now.0 in
+    let left = c.in-Ok-take_packet.ensures.taken s.link h stands.link wraps in
+    taken_left g.W.Wrap.wrapped c.args.self.now c.put_texts.new.link c.max-self.result c.take_packet.new.env c.args.out.now c.reserve.new.self c.take_packet.new.out c.put_texts.new.out
+    c.args.to s h v c.args.remote c.args.now.0 c.conn.result c.take_packet.new.link stands c.max-self.ensures c.reserve.ensures.same left
+    (c.in-Ok-put_texts.ensures.stands o.link left.link) (λ end. c.in-Ok-put_texts.ensures.put o.link end left.link) (c.conn.ensures o.link left.link)
+
+pub returns-in-Some-end-clause-answer : goal.returns-in-Some-end-clause-answer
+unfolding StandsFor packet_taken
+returns-in-Some-end-clause-answer g c = λ s h stands wraps. c.in-Ok-take_packet.ensures.end s.link h stands.link wraps ∙ c.in-Some-end.is
+
+pub returns-in-Some-end-clause-uses : goal.returns-in-Some-end-clause-uses
+unfolding StandsFor longest
+returns-in-Some-end-clause-uses g c = λ s h stands wraps.
+    let v : ControlForm = control_form c.args.view.now in
+    let o : Outcome = received s.link h v c.args.remote c.args.now.0 in
+    let left = c.in-Ok-take_packet.ensures.taken s.link h stands.link wraps in
+    let none = none_longer_received c.args.self.now.longest c.max-self.result s.link h v c.args.remote c.args.now.0 c.max-self.ensures stands.longest in
+    let grows = c.reserve.ensures.grows in
+    let uses = c.take_packet.ensures.uses in
+    let puts = c.put_texts.ensures.uses o.link c.max-self.result left.link none in
+    record {
+      effects_left = omega (arith, grows.0, uses.effects_left, puts.0);
+      bytes_left = omega (arith, grows.1, uses.bytes_left, puts.1, c.max-self.ensures);
+    }
+
