@@ -70,6 +70,7 @@ stands_relinked c k s l stands frame link = record {
   plain = stands.plain;
   read_inside = stands.read_inside;
   longest = subst (λ (taken : List Arrival). NoneIsLonger c.longest taken) (sym frame.taken) stands.longest;
+  room = stands.room;
   packets = data_relinked c.window c.packets.items s l frame.kid stands.packets;
 }
 

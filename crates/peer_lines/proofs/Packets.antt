@@ -33,6 +33,10 @@ still_there (x ∷ more) channel = refl
 
 -- ---- before it is made
 
+pub none_there : (packets : List (DataChannel AnyGcm)) → is_there packets ≡ false → packets ≡ []
+none_there [] none = refl
+none_there (x ∷ more) none = absurd (false≢true (sym none))
+
 pub before_of : (window : Option Kept) (packets : List (DataChannel AnyGcm)) (s : Session) → is_there packets ≡ false → DataStands window packets s → IsBeforeWith window s
 before_of window [] s none stands = stands
 before_of window (x ∷ more) s none stands = absurd (false≢true (sym none))

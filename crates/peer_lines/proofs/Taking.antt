@@ -45,6 +45,7 @@ taken_left wrapped c k longest env before reserved middle after to s h v remote 
         plain = stands.plain;
         read_inside = stands.read_inside;
         longest = subst (λ (t : List Arrival). NoneIsLonger longest t) (sym frame.taken) (none_longer_received c.longest longest s.link h v remote now is stands.longest);
+        room = stands.room;
         packets = data_relinked c.window c.packets.items s (read_here most_in_order o.link) (frame.kid ∙ frame_received s.link h v remote now) stands.packets;
       };
       envelope = left.envelope;

@@ -14,10 +14,6 @@ text_room c = c.link.sending.spare
 unfoldable pub plain_room : SessionChannels → ℕ
 plain_room c = vec_capacity c.plain - vec_len c.plain
 
--- room for a data channel
-unfoldable pub data_room : SessionChannels → ℕ
-data_room c = vec_capacity c.packets - vec_len c.packets
-
 -- the length of the longest payload that it may hold, in bytes
 unfoldable pub longest : SessionChannels → ℕ
 longest c = c.longest
@@ -27,4 +23,3 @@ pub record KeepsRoom (before after : SessionChannels) : Type 0 where
   pub payload : payload_room before ≤ payload_room after
   pub text : text_room before ≤ text_room after
   pub plain : plain_room before ≤ plain_room after
-  pub packets : data_room before ≤ data_room after

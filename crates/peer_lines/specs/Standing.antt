@@ -1,5 +1,5 @@
 -- What a key session carries of its own, its control link, its unread plain text and its data channel, and the sessions for which that stands.
-use Rattle.std.specs.Prelude.{◌≡◌, ℕ, ◌≤◌, Bool, true, false, List, [], ◌∷◌, length, drop, Option, Some, None}
+use Rattle.std.specs.Prelude.{◌≡◌, ℕ, ◌≤◌, Bool, true, false, List, [], ◌∷◌, length, drop, Option, Some, None, vec_capacity}
 use Rattle.vpn_base.specs.declared.names.Timers.{Timers}
 use Rattle.gcm_seal.specs.declared.gcm.AnyGcm.{AnyGcm}
 use Rattle.packet_ids.specs.Freshness.{begun}
@@ -42,13 +42,15 @@ abbrev pub NoneIsLonger : ℕ → List Arrival → Type 0
 NoneIsLonger longest [] = Unit {0}
 NoneIsLonger longest (a ∷ taken) = (length a.1 ≤ longest) × NoneIsLonger longest taken
 
--- its link and its data channel stand for those of the session, it holds the plain text that was not read, and no payload is longer than it says
+-- its link and its data channel stand for those of the session, it holds the plain text that was not read, no payload is longer than it says,
+-- and it has room for a data channel
 pub record IsOfSession (c : SessionChannels) (s : Session) : Type 0 where
   pub link : LinkStands c.link s.link
   pub plain : c.plain.items ≡ drop s.read s.plain
   pub read_inside : s.read ≤ length s.plain
   pub longest : NoneIsLonger c.longest s.link.receiving.taken
   pub packets : DataStands c.window c.packets.items s
+  pub room : 1 ≤ vec_capacity c.packets
 
 -- the same as one word, which callers do not look into
 unfoldable pub StandsFor : SessionChannels → Session → Type 0

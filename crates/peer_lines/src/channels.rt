@@ -7,7 +7,7 @@ ghost use Rattle.control_link.specs.Links.{IsReset};
 ghost use Rattle.peer_table.specs.Exchange.{unread};
 ghost use Rattle.peer_table.specs.KeySessions.{Session, kid_of, session_begun};
 ghost use Rattle.peer_lines.specs.Standing.{BlankFor, StandsFor, has_data};
-ghost use Rattle.peer_lines.specs.Rooms.{KeepsRoom, data_room, longest, payload_room, plain_room, text_room};
+ghost use Rattle.peer_lines.specs.Rooms.{KeepsRoom, longest, payload_room, plain_room, text_room};
 
 use crate::blank::SessionBlank;
 use control_link::ControlLink;
@@ -36,7 +36,7 @@ pub struct SessionChannels {
 impl SessionChannels {
     /// The channels of a key session that begins on this engine connection with this key id, by this reset, and
     /// for which memory was taken ahead. It takes none.
-    #[tactic(auto, unfolding(crate::specs::Standing::StandsFor, crate::specs::Standing::BlankFor, crate::specs::Standing::has_data, crate::specs::Rooms::data_room))]
+    #[tactic(auto, unfolding(crate::specs::Standing::StandsFor, crate::specs::Standing::BlankFor, crate::specs::Standing::has_data))]
     pub fn begin(
         alloc: Global,
         blank: SessionBlank,
@@ -50,7 +50,6 @@ impl SessionChannels {
             StandsFor result (session_begun timers conn number first moment) }
         ensures open { result.link.spent ≡ false }
         ensures there { has_data result ≡ false }
-        ensures room { 1 ≤ data_room result }
     {
         let SessionBlank { link, window, room } = blank;
         SessionChannels {
@@ -64,7 +63,7 @@ impl SessionChannels {
 
     /// Takes the memory for one control packet with a payload of at most so many bytes, for one text for the other
     /// end and for plain text of it, each of at most so many bytes.
-    #[tactic(auto, unfolding(crate::specs::Standing::StandsFor, crate::specs::Standing::has_data, crate::specs::Rooms::payload_room, crate::specs::Rooms::text_room, crate::specs::Rooms::plain_room, crate::specs::Rooms::data_room, crate::specs::Rooms::longest))]
+    #[tactic(auto, unfolding(crate::specs::Standing::StandsFor, crate::specs::Standing::has_data, crate::specs::Rooms::payload_room, crate::specs::Rooms::text_room, crate::specs::Rooms::plain_room, crate::specs::Rooms::longest))]
     pub fn reserve(&mut self, payload: usize, text: usize, plain: usize) -> Result<(), NoMemory>
         ensures same { (s : Session) → StandsFor self.old s → StandsFor self.new s }
         ensures payload { OnOk result (payload ≤ payload_room self.new) }

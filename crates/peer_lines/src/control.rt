@@ -13,7 +13,7 @@ ghost use Rattle.peer_table.specs.Outboxes.{HasRoom, Uses, actions_of};
 ghost use Rattle.peer_table.specs.Peer.{Closes};
 ghost use Rattle.peer_lines.specs.Calls.{Leaves, begun_sent, due_sent, packet_taken, still, text_offered, unless_wanting};
 ghost use Rattle.peer_lines.specs.Standing.{StandsFor, has_data};
-ghost use Rattle.peer_lines.specs.Rooms.{data_room, longest, payload_room, plain_room, text_room};
+ghost use Rattle.peer_lines.specs.Rooms.{longest, payload_room, text_room};
 
 use crate::channels::SessionChannels;
 use control_link::{Envelope, LinkEnd};

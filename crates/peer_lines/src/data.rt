@@ -14,7 +14,6 @@ ghost use Rattle.peer_table.specs.Peer.{Writes, other};
 ghost use Rattle.peer_lines.specs.Calls.{after_opening, after_sealing, opened_as, opening_answer, sealing_answer, with_read};
 ghost use Rattle.peer_lines.specs.Standing.{StandsFor, has_data, is_there};
 ghost use Rattle.peer_lines.specs.internal.Packets.{IsFirst, IsWindowOf, fault_of};
-ghost use Rattle.peer_lines.specs.Rooms.{data_room};
 
 use crate::channels::SessionChannels;
 use crate::plain::drop_front;
@@ -112,15 +111,12 @@ impl SessionChannels {
     ) -> Result<(), NoMemory>
         requires kid { kid < 8 }
         requires peer_id { peer_id < 2 ^ 24 }
-        requires room { 1 ≤ data_room self.old }
-        requires none { has_data self.old ≡ false }
-        requires used { used ≤ length self.old.plain.items }
-        ensures made { (s : Session) → StandsFor self.old s → s.link.kid ≡ kid →
+        ensures made { (s : Session) → StandsFor self.old s → has_data self.old ≡ false → s.link.kid ≡ kid → used ≤ length s.plain →
             s.stage ≡ Keyed (record { block = keys.now.0; cipher = cipher; peer_id = peer_id }) →
             OnOk result (StandsFor self.new (with_read used s)
                 × ((end : Role) → Holds out.new (out.old.effects ++ actions_of end (Writes s.link.conn (server_message own.now) ∷ [])) out.old.staged)) }
         ensures kept { (s : Session) → StandsFor self.old s → OnErr result (StandsFor self.new s × Holds out.new out.old.effects out.old.staged) }
-        ensures there { (s : Session) → StandsFor self.old s → OnOk result (has_data self.new ≡ true) }
+        ensures there { (s : Session) → StandsFor self.old s → has_data self.old ≡ false → OnOk result (has_data self.new ≡ true) }
         ensures fits { HasRoom out.old 1 93 → IsOk result }
         ensures uses { Uses out.old out.new 1 93 }
         ensures spent { self.new.link.spent ≡ self.old.link.spent }
@@ -133,13 +129,14 @@ impl SessionChannels {
             Ok(()) => {}
             Err(NoMemory) => return Err(NoMemory),
         }
+        let used = used.min(self.plain.len());
         drop_front(&mut self.plain, used);
         open_channel(&mut self.window, &mut self.packets, keys, cipher, role, kid, peer_id);
         Ok(())
     }
 
     /// Seals an inner packet of at most 1,500 bytes as an effect, as an end of this role. Spent comes exactly where
-    /// the last packet id was used. It takes no memory.
+    /// the last packet id was used, or there is no data channel. It takes no memory.
     #[tactic(auto, unfolding(crate::specs::Standing::has_data))]
     pub fn seal(
         &mut self,
@@ -150,20 +147,23 @@ impl SessionChannels {
     ) -> Result<(), Spent>
         requires short { length inner.now ≤ 1500 }
         requires room { HasRoom out.old 1 1524 }
-        requires there { has_data self.old ≡ true }
-        ensures left { (s : Session) (keys : Keys) → StandsFor self.old s → keys_of s.stage ≡ Some keys →
+        ensures left { (s : Session) (keys : Keys) → StandsFor self.old s → keys_of s.stage ≡ Some keys → has_data self.old ≡ true →
             StandsFor self.new (after_sealing s)
             × Holds out.new (out.old.effects ++ wired to (sealing_answer role keys inner.now s)) out.old.staged }
-        ensures answer { (s : Session) (keys : Keys) → StandsFor self.old s → keys_of s.stage ≡ Some keys → is_ok result ≡ not (ids_are_spent s) }
-        ensures there { has_data self.new ≡ true }
+        ensures answer { (s : Session) (keys : Keys) → StandsFor self.old s → keys_of s.stage ≡ Some keys → has_data self.old ≡ true → is_ok result ≡ not (ids_are_spent s) }
+        ensures there { has_data self.new ≡ has_data self.old }
         ensures uses { Uses out.old out.new 1 1524 }
         ensures link { self.new.link ≡ self.old.link }
     {
+        if self.packets.is_empty() {
+            return Err(Spent);
+        }
         seal_with(&mut self.packets[0], role, inner, to, out)
     }
 
     /// Opens a data packet of the other end in place, as an end of this role, and answers the length of its inner packet,
-    /// which then stands behind the first 24 bytes. The bytes are unchanged where nothing opens. It takes no memory.
+    /// which then stands behind the first 24 bytes. The bytes are unchanged where nothing opens. Without a
+    /// data channel nothing opens. It takes no memory.
     #[tactic(auto, unfolding(crate::specs::Standing::has_data))]
     pub fn unseal(
         &mut self,
@@ -172,18 +172,20 @@ impl SessionChannels {
         now: Moment,
     ) -> Result<usize, SessionFault>
         requires short { length datagram.old ≤ 65536 }
-        requires there { has_data self.old ≡ true }
-        ensures left { (s : Session) (keys : Keys) → StandsFor self.old s → keys_of s.stage ≡ Some keys →
+        ensures left { (s : Session) (keys : Keys) → StandsFor self.old s → keys_of s.stage ≡ Some keys → has_data self.old ≡ true →
             StandsFor self.new (after_opening role keys datagram.old now s) }
-        ensures answer { (s : Session) (keys : Keys) → StandsFor self.old s → keys_of s.stage ≡ Some keys →
+        ensures answer { (s : Session) (keys : Keys) → StandsFor self.old s → keys_of s.stage ≡ Some keys → has_data self.old ≡ true →
             TellsOpened result datagram.new (opening_answer role keys datagram.old now s) }
-        ensures there { has_data self.new ≡ true }
+        ensures there { has_data self.new ≡ has_data self.old }
         ensures long { IfOk result (λ n. n + 24 ≡ length datagram.old) }
         ensures unchanged { IsUnchanged result datagram.old datagram.new }
         ensures front { take 24 datagram.new ≡ take 24 datagram.old }
         ensures length { length datagram.new ≡ length datagram.old }
         ensures link { self.new.link ≡ self.old.link }
     {
+        if self.packets.is_empty() {
+            return Err(SessionFault::NotSealed);
+        }
         unseal_with(&mut self.packets[0], role, datagram, now)
     }
 }
@@ -200,16 +202,14 @@ fn open_channel(
 )
     requires kid { kid < 8 }
     requires peer_id { peer_id < 2 ^ 24 }
-    requires room { vec_len packets.old < vec_capacity packets.old }
-    requires none { packets.old.items ≡ [] }
-    ensures made { (received : History) → IsWindowOf window.old received → IsFirst packets.new.items
+    ensures made { (received : History) → packets.old.items ≡ [] → 1 ≤ vec_capacity packets.old → IsWindowOf window.old received → IsFirst packets.new.items
         (record { block = keys.now.0; cipher = cipher; peer_id = peer_id }) kid received }
+    ensures capacity { vec_capacity packets.old ≤ vec_capacity packets.new }
 {
     let Some(window) = window.take() else {
         return;
     };
     let channel = DataChannel::over_window(keys, cipher, role, kid, peer_id, window);
-    let pushed = packets.push(channel);
-    prove!(pushed.is_ok());
-    let _ = pushed;
+    // The room was taken ahead, so this does not fail.
+    let _ = packets.push(channel);
 }

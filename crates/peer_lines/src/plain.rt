@@ -9,7 +9,7 @@ ghost use Rattle.peer_table.specs.Exchange.{is_nul};
 ghost use Rattle.peer_table.specs.KeySessions.{Session};
 ghost use Rattle.peer_lines.specs.Calls.{after_waiting, waiting, with_plain};
 ghost use Rattle.peer_lines.specs.Standing.{StandsFor, has_data};
-ghost use Rattle.peer_lines.specs.Rooms.{KeepsRoom, data_room, payload_room, plain_room, text_room};
+ghost use Rattle.peer_lines.specs.Rooms.{plain_room};
 
 use crate::channels::SessionChannels;
 use key_method2::{Km2ViewRead, read_km2_view};
@@ -66,15 +66,18 @@ impl SessionChannels {
         }
     }
 
-    /// Passes the message that waits, with its NUL; where none waits, nothing changes. It takes no memory.
+    /// Passes the message that waits, with its NUL; where none waits, or there is no data channel yet, nothing changes. It
+    /// takes no memory.
     #[tactic(auto, unfolding(crate::specs::Standing::has_data, crate::specs::Rooms::plain_room))]
     pub fn pass_message(&mut self)
-        requires { has_data self.old ≡ true }
-        ensures passed { (s : Session) → StandsFor self.old s → StandsFor self.new (after_waiting s) }
+        ensures passed { (s : Session) → StandsFor self.old s → has_data self.old ≡ true → StandsFor self.new (after_waiting s) }
         ensures there { has_data self.new ≡ has_data self.old }
         ensures link { self.new.link ≡ self.old.link }
         ensures room { plain_room self.old ≤ plain_room self.new }
     {
+        if self.packets.is_empty() {
+            return;
+        }
         match nul_place(&self.plain) {
             None => {}
             Some(place) => drop_front(&mut self.plain, place + 1),

@@ -51,9 +51,10 @@ fn put_text(conn: Conn, payload: &[u8], out: &mut Outbox) -> Result<(), NoMemory
     }
 }
 
-// Puts the payloads of the text that are here to the engine, no more than so many.
+// Puts the payloads of the text that are here to the engine, no more than so many, of no more than so many bytes each.
 fn put_texts(
     most: usize,
+    longest: usize,
     conn: Conn,
     link: &mut ControlLink,
     out: &mut Outbox,
@@ -61,10 +62,9 @@ fn put_texts(
     ensures stands { OnOk result ((l : Link) → LinkStands link.old l → LinkStands link.new (read_here most l)) }
     ensures put { OnOk result ((l : Link) (end : Role) → LinkStands link.old l →
         Holds out.new (out.old.effects ++ actions_of end (puts conn (texts_here most l))) out.old.staged) }
-    ensures fits { (l : Link) (longest : ℕ) → LinkStands link.old l → NoneIsLonger longest l.receiving.taken →
+    ensures fits { (l : Link) → LinkStands link.old l → NoneIsLonger longest l.receiving.taken →
         most ≤ out.old.spare_effects → most * longest ≤ out.old.spare_bytes → IsOk result }
-    ensures uses { (l : Link) (longest : ℕ) → LinkStands link.old l → NoneIsLonger longest l.receiving.taken →
-        (out.old.spare_effects ≤ out.new.spare_effects + most) × (out.old.spare_bytes ≤ out.new.spare_bytes + most * longest) }
+    ensures uses { (out.old.spare_effects ≤ out.new.spare_effects + most) × (out.old.spare_bytes ≤ out.new.spare_bytes + most * longest) }
     ensures spent { link.new.spent ≡ link.old.spent }
     ensures spare { (link.old.receiving.spare ≤ link.new.receiving.spare) × (link.old.sending.spare ≤ link.new.sending.spare) }
 {
@@ -74,11 +74,15 @@ fn put_texts(
     match link.next_in_order() {
         None => Ok(()),
         Some(payload) => {
-            match put_text(conn, payload.as_slice(), out) {
+            let payload = payload.as_slice();
+            if longest < payload.len() {
+                return Err(NoMemory);
+            }
+            match put_text(conn, payload, out) {
                 Ok(()) => {}
                 Err(NoMemory) => return Err(NoMemory),
             }
-            put_texts(most - 1, conn, link, out)
+            put_texts(most - 1, longest, conn, link, out)
         }
     }
 }
@@ -147,13 +151,10 @@ impl SessionChannels {
             Leaves W.wrapped self.new env.new out.old out.new to (unless_wanting result (packet_taken s h (control_form view.now) remote now.0) (still s h)) }
         ensures answer { (s : Session) → (h : EnvelopeHistory) → StandsFor self.old s → EnvelopeStands W.wrapped env.old h →
             Told result (packet_taken s h (control_form view.now) remote now.0).end }
-        ensures spent { (s : Session) → (h : EnvelopeHistory) → StandsFor self.old s → EnvelopeStands W.wrapped env.old h →
-            self.new.link.spent ≡ tells_spent result }
-        ensures fits { (s : Session) → (h : EnvelopeHistory) → StandsFor self.old s → EnvelopeStands W.wrapped env.old h →
-            (room : ℕ) → room < 2 ^ 64 → 7200 + 12 * max (longest self.old) (length view.now.payload.now) ≤ room →
+        ensures spent { self.new.link.spent ≡ tells_spent result }
+        ensures fits { (room : ℕ) → room < 2 ^ 64 → 7200 + 12 * max (longest self.old) (length view.now.payload.now) ≤ room →
             HasRoom out.old 18 room → length view.now.payload.now ≤ payload_room self.old → IsNotMemory result }
-        ensures uses { (s : Session) → (h : EnvelopeHistory) → StandsFor self.old s → EnvelopeStands W.wrapped env.old h →
-            Uses out.old out.new 18 (7200 + 12 * max (longest self.old) (length view.now.payload.now)) }
+        ensures uses { Uses out.old out.new 18 (7200 + 12 * max (longest self.old) (length view.now.payload.now)) }
         ensures there { has_data self.new ≡ has_data self.old }
     {
         let room = match self.packet_room(view.payload.len()) {
@@ -169,10 +170,14 @@ impl SessionChannels {
             Err(NoMemory) => return Err(Or::Memory),
         };
         self.longest = self.longest.max(view.payload.len());
-        match put_texts(MOST_PUT, self.link.conn(), &mut self.link, out) {
-            Ok(()) => {}
-            Err(NoMemory) => return Err(Or::Memory),
-        }
+        // No payload is longer than the longest, so the room is there and this does not fail.
+        let _ = put_texts(
+            MOST_PUT,
+            self.longest,
+            self.link.conn(),
+            &mut self.link,
+            out,
+        );
         match end {
             None => Ok(()),
             Some(end) => Err(Or::Why(end)),

@@ -1,4 +1,4 @@
-use Rattle.std.proofs.Common.{◌≡◌, ◌≤◌, ◌+◌, ◌-◌, ◌*◌, ◌++◌, ℕ, List, [], ◌∷◌, length, Some, refl, sym, ap, subst, ◌∙◌, arith}
+use Rattle.std.proofs.Common.{◌≡◌, ◌≤◌, ◌<◌, ◌+◌, ◌-◌, ◌*◌, ◌++◌, ℕ, List, [], ◌∷◌, length, Some, refl, sym, ap, subst, ◌∙◌, arith}
 use Rattle.std.proofs.lemmas.List.{append-nil}
 use Rattle.std.proofs.lemmas.Result.{on_ok_weaker}
 use Rattle.vpn_base.specs.declared.names.Role.{Role}
@@ -14,6 +14,9 @@ use Rattle.peer_lines.proofs.Links.{Frame}
 use Rattle.peer_lines.proofs.Texts.{frame_text, no_more_texts, none_read, none_texts, one_read, one_text, puts_on, read_no_more, room_left, short_text}
 use Rattle.peer_lines.proofs.reading.+put_texts.Goals as goal
 
+not_less : (n m : ℕ) → m ≤ n → n < m → ⊥
+not_less n m le lt = omega (arith, le, lt)
+
 pub returns-then-most-eq0-clause-stands : goal.returns-then-most-eq0-clause-stands
 returns-then-most-eq0-clause-stands t c = λ l s. subst (λ (g : Link). LinkStands c.args.link.now g) (sym (read_no_more c.args.most l c.if-most-eq0.true)) s
 
@@ -21,20 +24,16 @@ pub returns-then-most-eq0-clause-put : goal.returns-then-most-eq0-clause-put
 returns-then-most-eq0-clause-put t c = λ l end s.
     (sym (ap (λ (p : List (List ℕ)). c.args.out.now.effects ++ actions_of end (puts c.args.conn p)) (no_more_texts c.args.most l c.if-most-eq0.true) ∙ append-nil c.args.out.now.effects), refl)
 
-pub returns-in-Err-clause-fits : goal.returns-in-Err-clause-fits
-returns-in-Err-clause-fits t c = λ l longest s none effects bytes.
-    let short : length c.as_slice.result.now ≤ longest =
-        subst (λ (p : List ℕ). length p ≤ longest) (sym c.as_slice.ensures) (short_text longest l c.in-Some.payload none (sym (c.in-Some.ensures.text l s))) in
-    let room = room_left c.args.most longest c.if-most-eq0.false in
-    c.in-Err.ensures.fits (omega (arith, effects, c.if-most-eq0.false)) (omega (arith, short, room, bytes))
+pub returns-then-longest-payload-clause-fits : goal.returns-then-longest-payload-clause-fits
+returns-then-longest-payload-clause-fits t c = λ l s none effects bytes.
+    let short : length c.as_slice-payload.result.now ≤ c.args.longest =
+        subst (λ (p : List ℕ). length p ≤ c.args.longest) (sym c.as_slice-payload.ensures) (short_text c.args.longest l c.in-Some.payload none (sym (c.in-Some.ensures.text l s))) in
+    absurd (not_less c.args.longest (length c.as_slice-payload.result.now) short c.if-longest-payload.true)
 
-pub returns-in-Err-clause-uses : goal.returns-in-Err-clause-uses
-returns-in-Err-clause-uses t c = λ l longest s none.
-    let short : length c.as_slice.result.now ≤ longest =
-        subst (λ (p : List ℕ). length p ≤ longest) (sym c.as_slice.ensures) (short_text longest l c.in-Some.payload none (sym (c.in-Some.ensures.text l s))) in
-    let room = room_left c.args.most longest c.if-most-eq0.false in
-    let uses = c.put_text.ensures.uses in
-    (omega (arith, uses.0, c.if-most-eq0.false), omega (arith, uses.1, short, room))
+pub returns-in-Err-clause-fits : goal.returns-in-Err-clause-fits
+returns-in-Err-clause-fits t c = λ l s none effects bytes.
+    let room = room_left c.args.most c.args.longest c.if-most-eq0.false in
+    c.in-Err.ensures.fits (omega (arith, effects, c.if-most-eq0.false)) (omega (arith, c.if-longest-payload.false, room, bytes))
 
 pub returns-in-None-clause-stands : goal.returns-in-None-clause-stands
 returns-in-None-clause-stands t c = λ l s.
@@ -59,26 +58,15 @@ returns-in-Ok-clause-put t c =
         Holds c.put_texts.new.out (c.put_text.new.out.effects ++ actions_of end (puts c.args.conn (texts_here (c.args.most - 1) l))) c.put_text.new.out.staged). λ l end s.
     let here = rest (after_text l) end (c.in-Some.ensures.stands l s) in
     let put : c.put_text.new.out.effects ≡ c.args.out.now.effects ++ actions_of end (puts c.args.conn (c.in-Some.payload ∷ [])) =
-        (c.in-Ok.ensures.put end).0 ∙ ap (λ (p : List ℕ). c.args.out.now.effects ++ actions_of end (puts c.args.conn (p ∷ []))) c.as_slice.ensures in
+        (c.in-Ok.ensures.put end).0 ∙ ap (λ (p : List ℕ). c.args.out.now.effects ++ actions_of end (puts c.args.conn (p ∷ []))) c.as_slice-payload.ensures in
     (here.0 ∙ puts_on c.args.conn end c.in-Some.payload (texts_here (c.args.most - 1) (after_text l)) c.args.out.now.effects c.put_text.new.out.effects put
         ∙ ap (λ (p : List (List ℕ)). c.args.out.now.effects ++ actions_of end (puts c.args.conn p)) (sym (one_text c.args.most l c.in-Some.payload c.if-most-eq0.false (sym (c.in-Some.ensures.text l s)))),
      here.1 ∙ (c.in-Ok.ensures.put end).1))
     c.put_texts.ensures.put
 
 pub returns-in-Ok-clause-fits : goal.returns-in-Ok-clause-fits
-returns-in-Ok-clause-fits t c = λ l longest s none effects bytes.
-    let short : length c.as_slice.result.now ≤ longest =
-        subst (λ (p : List ℕ). length p ≤ longest) (sym c.as_slice.ensures) (short_text longest l c.in-Some.payload none (sym (c.in-Some.ensures.text l s))) in
-    let room = room_left c.args.most longest c.if-most-eq0.false in
+returns-in-Ok-clause-fits t c = λ l s none effects bytes.
+    let room = room_left c.args.most c.args.longest c.if-most-eq0.false in
     let uses = c.put_text.ensures.uses in
-    c.put_texts.ensures.fits (after_text l) longest (c.in-Some.ensures.stands l s) (subst (λ (taken : List Arrival). NoneIsLonger longest taken) (sym (frame_text l).taken) none)
-    (omega (arith, uses.0, effects, c.if-most-eq0.false)) (omega (arith, uses.1, short, room, bytes))
-
-pub returns-in-Ok-clause-uses : goal.returns-in-Ok-clause-uses
-returns-in-Ok-clause-uses t c = λ l longest s none.
-    let short : length c.as_slice.result.now ≤ longest =
-        subst (λ (p : List ℕ). length p ≤ longest) (sym c.as_slice.ensures) (short_text longest l c.in-Some.payload none (sym (c.in-Some.ensures.text l s))) in
-    let room = room_left c.args.most longest c.if-most-eq0.false in
-    let uses = c.put_text.ensures.uses in
-    let rest = c.put_texts.ensures.uses (after_text l) longest (c.in-Some.ensures.stands l s) (subst (λ (taken : List Arrival). NoneIsLonger longest taken) (sym (frame_text l).taken) none) in
-    (omega (arith, uses.0, rest.0, c.if-most-eq0.false), omega (arith, uses.1, rest.1, short, room))
+    c.put_texts.ensures.fits (after_text l) (c.in-Some.ensures.stands l s) (subst (λ (taken : List Arrival). NoneIsLonger c.args.longest taken) (sym (frame_text l).taken) none)
+    (omega (arith, uses.0, effects, c.if-most-eq0.false)) (omega (arith, uses.1, c.if-longest-payload.false, room, bytes))

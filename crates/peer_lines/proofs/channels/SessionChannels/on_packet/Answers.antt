@@ -1,5 +1,6 @@
-use Rattle.std.proofs.Common.{◌≡◌, ◌≤◌, ◌<◌, ◌+◌, ◌*◌, ◌^◌, ℕ, length, max, false, true, None, Some, Result, Err, sym, ◌∙◌, arith}
+use Rattle.std.proofs.Common.{◌≡◌, ◌≤◌, ◌<◌, ◌+◌, ◌*◌, ◌^◌, ℕ, length, max, false, true, None, Some, Result, Ok, Err, IsOk, OnOk, sym, ◌∙◌, arith}
 use Rattle.std.proofs.lemmas.Bool.{false≢true}
+use Rattle.vpn_base.specs.declared.errors.NoMemory.{NoMemory}
 use Rattle.vpn_base.specs.declared.errors.Or.{Or}
 use Rattle.vpn_base.specs.declared.errors.Or.TheVariants.{Memory}
 use Rattle.opcode_codec.specs.ControlText.{ControlForm, control_form}
@@ -25,122 +26,74 @@ returns-in-Err-take_packet-clause-left g c = λ s h stands wraps.
 
 pub returns-in-Err-take_packet-clause-fits : goal.returns-in-Err-take_packet-clause-fits
 unfolding payload_room
-returns-in-Err-take_packet-clause-fits g c = λ s h stands wraps room small enough has payload.
+returns-in-Err-take_packet-clause-fits g c = λ room small enough has payload.
     let given : HasRoom c.reserve.new.self 6 7200 = record {
       effects_fit = omega (arith, c.in-Ok.ensures.ok.0);
       bytes_fit = omega (arith, c.in-Ok.ensures.ok.1, c.in-Some.ensures.room);
     } in
     absurd (false≢true (c.in-Err-take_packet.ensures.fits given payload))
 
-pub returns-in-Err-put_texts-clause-left : goal.returns-in-Err-put_texts-clause-left
-unfolding StandsFor longest
-returns-in-Err-put_texts-clause-left g c = λ s h stands wraps.
-    let v : ControlForm = control_form c.args.view.now in
-    let o : Outcome = received s.link h v c.args.remote c.args.now.0 in
-    let left = c.in-Ok-take_packet.ensures.taken s.link h stands.link wraps in
-    let none = none_longer_received c.args.self.now.longest c.max-self.result s.link h v c.args.remote c.args.now.0 c.max-self.ensures stands.longest in
-    let ok = c.in-Ok.ensures.ok in
-    let room = c.in-Some.ensures.room in
-    let uses = c.take_packet.ensures.uses in
-    let wants = c.in-Err-put_texts.ensures.fits o.link c.max-self.result left.link none
-        (omega (arith, ok.0, uses.effects_left)) (omega (arith, ok.1, room, uses.bytes_left, c.max-self.ensures)) in
-    absurd (false≢true wants)
-
-pub returns-in-Err-put_texts-clause-spent : goal.returns-in-Err-put_texts-clause-spent
-unfolding StandsFor longest
-returns-in-Err-put_texts-clause-spent g c = λ s h stands wraps.
-    let v : ControlForm = control_form c.args.view.now in
-    let o : Outcome = received s.link h v c.args.remote c.args.now.0 in
-    let left = c.in-Ok-take_packet.ensures.taken s.link h stands.link wraps in
-    let none = none_longer_received c.args.self.now.longest c.max-self.result s.link h v c.args.remote c.args.now.0 c.max-self.ensures stands.longest in
-    let ok = c.in-Ok.ensures.ok in
-    let room = c.in-Some.ensures.room in
-    let uses = c.take_packet.ensures.uses in
-    let wants = c.in-Err-put_texts.ensures.fits o.link c.max-self.result left.link none
-        (omega (arith, ok.0, uses.effects_left)) (omega (arith, ok.1, room, uses.bytes_left, c.max-self.ensures)) in
-    absurd (false≢true wants)
-
-pub returns-in-Err-put_texts-clause-fits : goal.returns-in-Err-put_texts-clause-fits
-unfolding StandsFor longest
-returns-in-Err-put_texts-clause-fits g c = λ s h stands wraps n small enough has payload.
-    let v : ControlForm = control_form c.args.view.now in
-    let o : Outcome = received s.link h v c.args.remote c.args.now.0 in
-    let left = c.in-Ok-take_packet.ensures.taken s.link h stands.link wraps in
-    let none = none_longer_received c.args.self.now.longest c.max-self.result s.link h v c.args.remote c.args.now.0 c.max-self.ensures stands.longest in
-    let ok = c.in-Ok.ensures.ok in
-    let room = c.in-Some.ensures.room in
-    let uses = c.take_packet.ensures.uses in
-    let wants = c.in-Err-put_texts.ensures.fits o.link c.max-self.result left.link none
-        (omega (arith, ok.0, uses.effects_left)) (omega (arith, ok.1, room, uses.bytes_left, c.max-self.ensures)) in
-    absurd (false≢true wants)
-
-pub returns-in-Err-put_texts-clause-uses : goal.returns-in-Err-put_texts-clause-uses
-unfolding StandsFor longest
-returns-in-Err-put_texts-clause-uses g c = λ s h stands wraps.
-    let v : ControlForm = control_form c.args.view.now in
-    let o : Outcome = received s.link h v c.args.remote c.args.now.0 in
-    let left = c.in-Ok-take_packet.ensures.taken s.link h stands.link wraps in
-    let none = none_longer_received c.args.self.now.longest c.max-self.result s.link h v c.args.remote c.args.now.0 c.max-self.ensures stands.longest in
-    let ok = c.in-Ok.ensures.ok in
-    let room = c.in-Some.ensures.room in
-    let uses = c.take_packet.ensures.uses in
-    let wants = c.in-Err-put_texts.ensures.fits o.link c.max-self.result left.link none
-        (omega (arith, ok.0, uses.effects_left)) (omega (arith, ok.1, room, uses.bytes_left, c.max-self.ensures)) in
-    absurd (false≢true wants)
+ok_of : (r : Result (Unit {0}) NoMemory) (X : Type 0) → IsOk r → OnOk r X → X
+ok_of (Ok a) X ok x = x
+ok_of (Err e) X ok x = absurd (false≢true ok)
 
 pub returns-in-None-end-clause-left : goal.returns-in-None-end-clause-left
-unfolding StandsFor
+unfolding StandsFor longest
 returns-in-None-end-clause-left g c = λ s h stands wraps.
     let v : ControlForm = control_form c.args.view.now in
     let o : Outcome = received s.link h v c.args.remote c.args.now.0 in
     let left = c.in-Ok-take_packet.ensures.taken s.link h stands.link wraps in
+    let none = none_longer_received c.args.self.now.longest c.max-self.result s.link h v c.args.remote c.args.now.0 c.max-self.ensures stands.longest in
+    let given = c.in-Ok.ensures.ok in
+    let room = c.in-Some.ensures.room in
+    let uses = c.take_packet.ensures.uses in
+    let ok : IsOk c.put_texts.result = c.put_texts.ensures.fits o.link left.link none
+        (omega (arith, given.0, uses.effects_left)) (omega (arith, given.1, room, uses.bytes_left, c.max-self.ensures)) in
     taken_left g.W.Wrap.wrapped c.args.self.now c.put_texts.new.link c.max-self.result c.take_packet.new.env c.args.out.now c.reserve.new.self c.take_packet.new.out c.put_texts.new.out
     c.args.to s h v c.args.remote c.args.now.0 c.conn.result c.take_packet.new.link stands c.max-self.ensures c.reserve.ensures.same left
-    (c.in-Ok-put_texts.ensures.stands o.link left.link) (λ end. c.in-Ok-put_texts.ensures.put o.link end left.link) (c.conn.ensures o.link left.link)
+    (ok_of c.put_texts.result _ ok c.put_texts.ensures.stands o.link left.link) (λ end. ok_of c.put_texts.result _ ok c.put_texts.ensures.put o.link end left.link) (c.conn.ensures o.link left.link)
 
 pub returns-in-None-end-clause-answer : goal.returns-in-None-end-clause-answer
 unfolding StandsFor packet_taken
 returns-in-None-end-clause-answer g c = λ s h stands wraps. c.in-Ok-take_packet.ensures.end s.link h stands.link wraps ∙ c.in-None-end.is
 
 pub returns-in-None-end-clause-uses : goal.returns-in-None-end-clause-uses
-unfolding StandsFor longest
-returns-in-None-end-clause-uses g c = λ s h stands wraps.
-    let v : ControlForm = control_form c.args.view.now in
-    let o : Outcome = received s.link h v c.args.remote c.args.now.0 in
-    let left = c.in-Ok-take_packet.ensures.taken s.link h stands.link wraps in
-    let none = none_longer_received c.args.self.now.longest c.max-self.result s.link h v c.args.remote c.args.now.0 c.max-self.ensures stands.longest in
+unfolding longest
+returns-in-None-end-clause-uses g c =
     let grows = c.reserve.ensures.grows in
     let uses = c.take_packet.ensures.uses in
-    let puts = c.put_texts.ensures.uses o.link c.max-self.result left.link none in
+    let puts = c.put_texts.ensures.uses in
     record {
       effects_left = omega (arith, grows.0, uses.effects_left, puts.0);
       bytes_left = omega (arith, grows.1, uses.bytes_left, puts.1, c.max-self.ensures);
     }
 
 pub returns-in-Some-end-clause-left : goal.returns-in-Some-end-clause-left
-unfolding StandsFor
+unfolding StandsFor longest
 returns-in-Some-end-clause-left g c = λ s h stands wraps.
     let v : ControlForm = control_form c.args.view.now in
     let o : Outcome = received s.link h v c.args.remote c.args.now.0 in
     let left = c.in-Ok-take_packet.ensures.taken s.link h stands.link wraps in
+    let none = none_longer_received c.args.self.now.longest c.max-self.result s.link h v c.args.remote c.args.now.0 c.max-self.ensures stands.longest in
+    let given = c.in-Ok.ensures.ok in
+    let room = c.in-Some.ensures.room in
+    let uses = c.take_packet.ensures.uses in
+    let ok : IsOk c.put_texts.result = c.put_texts.ensures.fits o.link left.link none
+        (omega (arith, given.0, uses.effects_left)) (omega (arith, given.1, room, uses.bytes_left, c.max-self.ensures)) in
     taken_left g.W.Wrap.wrapped c.args.self.now c.put_texts.new.link c.max-self.result c.take_packet.new.env c.args.out.now c.reserve.new.self c.take_packet.new.out c.put_texts.new.out
     c.args.to s h v c.args.remote c.args.now.0 c.conn.result c.take_packet.new.link stands c.max-self.ensures c.reserve.ensures.same left
-    (c.in-Ok-put_texts.ensures.stands o.link left.link) (λ end. c.in-Ok-put_texts.ensures.put o.link end left.link) (c.conn.ensures o.link left.link)
+    (ok_of c.put_texts.result _ ok c.put_texts.ensures.stands o.link left.link) (λ end. ok_of c.put_texts.result _ ok c.put_texts.ensures.put o.link end left.link) (c.conn.ensures o.link left.link)
 
 pub returns-in-Some-end-clause-answer : goal.returns-in-Some-end-clause-answer
 unfolding StandsFor packet_taken
 returns-in-Some-end-clause-answer g c = λ s h stands wraps. c.in-Ok-take_packet.ensures.end s.link h stands.link wraps ∙ c.in-Some-end.is
 
 pub returns-in-Some-end-clause-uses : goal.returns-in-Some-end-clause-uses
-unfolding StandsFor longest
-returns-in-Some-end-clause-uses g c = λ s h stands wraps.
-    let v : ControlForm = control_form c.args.view.now in
-    let o : Outcome = received s.link h v c.args.remote c.args.now.0 in
-    let left = c.in-Ok-take_packet.ensures.taken s.link h stands.link wraps in
-    let none = none_longer_received c.args.self.now.longest c.max-self.result s.link h v c.args.remote c.args.now.0 c.max-self.ensures stands.longest in
+unfolding longest
+returns-in-Some-end-clause-uses g c =
     let grows = c.reserve.ensures.grows in
     let uses = c.take_packet.ensures.uses in
-    let puts = c.put_texts.ensures.uses o.link c.max-self.result left.link none in
+    let puts = c.put_texts.ensures.uses in
     record {
       effects_left = omega (arith, grows.0, uses.effects_left, puts.0);
       bytes_left = omega (arith, grows.1, uses.bytes_left, puts.1, c.max-self.ensures);

@@ -37,13 +37,13 @@ read_on s i is inside read_inside =
 
 pub returns-in-None-clause-passed : goal.returns-in-None-clause-passed
 unfolding StandsFor
-returns-in-None-clause-passed c = λ s stands.
+returns-in-None-clause-passed c = λ s stands there.
     subst (λ (t : Session). IsOfSession c.args.self.now t)
     (none_waits s (ap (λ (t : List ℕ). position is_nul t) (sym stands.plain ∙ sym c.deref.ensures.value) ∙ sym c.in-None.ensures.place)) stands
 
 pub returns-in-Some-clause-passed : goal.returns-in-Some-clause-passed
 unfolding StandsFor has_data
-returns-in-Some-clause-passed c = λ s stands.
+returns-in-Some-clause-passed c = λ s stands there.
     let i = c.in-Some.place in
     let here : c.deref.result.now ≡ unread s = c.deref.ensures.value ∙ stands.plain in
     let is : position is_nul (unread s) ≡ Some i = ap (λ (t : List ℕ). position is_nul t) (sym here) ∙ sym c.in-Some.ensures.place in
@@ -56,5 +56,6 @@ returns-in-Some-clause-passed c = λ s stands.
       plain = c.drop_front.ensures.rest ∙ ap (λ (t : List ℕ). drop (i + 1) t) stands.plain ∙ on.0;
       read_inside = on.1;
       longest = stands.longest;
-      packets = data_kept c.args.self.now.window c.args.self.now.packets.items s (message_read s).read c.requires stands.packets;
+      room = stands.room;
+      packets = data_kept c.args.self.now.window c.args.self.now.packets.items s (message_read s).read there stands.packets;
     })
