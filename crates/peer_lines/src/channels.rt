@@ -96,3 +96,25 @@ impl SessionChannels {
         !self.packets.is_empty()
     }
 }
+
+impl ControlText for SessionChannels {
+    ghost use Rattle.control_link.specs.Links.{Link, LinkStands, read_of, written_of};
+
+    ghost History = { Link };
+
+    ghost stands = { λ c l. LinkStands c.link l };
+
+    ghost conn_of = { λ l. l.conn };
+
+    ghost read_of = { λ l. read_of l };
+
+    ghost written_of = { λ l. written_of l };
+
+    fn conn(&self) -> Conn {
+        self.link.conn()
+    }
+
+    fn read_count(&self) -> u64 {
+        self.link.read_count()
+    }
+}

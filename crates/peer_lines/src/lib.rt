@@ -5,8 +5,10 @@ mod blank;
 mod channels;
 mod control;
 mod data;
+mod laws;
 mod plain;
 mod reading;
 
 pub use blank::SessionBlank;
 pub use channels::SessionChannels;
+pub use laws::channels_stand_on;
