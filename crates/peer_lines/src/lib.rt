@@ -12,3 +12,6 @@ mod reading;
 pub use blank::SessionBlank;
 pub use channels::SessionChannels;
 pub use laws::channels_stand_on;
+
+#[cfg(test)]
+mod tests;
