@@ -94,3 +94,8 @@ linked_left wrapped c k env before after to s h o (Err Memory) stands frame left
   envelope = left.envelope;
   outbox = λ role. (left.outbox.0 ∙ sym (append-nil before.effects), left.outbox.1);
 }
+
+-- a link stands for one on which the wrap ids did not end
+pub still_open : (k : KeptLink) (l : Link) → LinkStands k l → l.spent ≡ false → k.spent ≡ false
+unfolding LinkStands
+still_open k l stands is = stands.spent ∙ is

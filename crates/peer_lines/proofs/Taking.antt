@@ -1,15 +1,19 @@
 -- A control packet is taken.
-use Rattle.std.proofs.Common.{◌≡◌, ◌++◌, ℕ, List, length, max, None, refl, ap, sym, subst, ◌∙◌}
+use Rattle.std.proofs.Common.{◌≡◌, ◌++◌, ℕ, List, length, max, None, Option, Result, Ok, Err, IfOk, OnOk, OnErr, refl, ap, sym, subst, ◌∙◌}
 use Rattle.vpn_base.specs.declared.address.Addr.{Addr}
+use Rattle.vpn_base.specs.declared.errors.Or.{Or}
+use Rattle.vpn_base.specs.declared.errors.Or.TheVariants.{Memory, Why}
 use Rattle.vpn_base.specs.declared.names.Conn.{Conn}
 use Rattle.vpn_base.specs.declared.names.Role.{Role}
 use Rattle.vpn_base.specs.declared.names.Sid.{Sid}
 use Rattle.vpn_links.specs.Actions.{Action, Contents, Datagram, Holds}
 use Rattle.opcode_codec.specs.ControlText.{ControlForm}
+use Rattle.reliable_recv.specs.declared.receiving.Got.{Got}
 use Rattle.reliable_recv.specs.Receiving.{Arrival}
 use Rattle.tls_crypt.specs.Packets.{Wrapping}
 use Rattle.control_link.specs.declared.envelope.Envelope.{Envelope}
-use Rattle.control_link.specs.Calls.{Left, Outcome, datagrams_to, received, unchanged}
+use Rattle.control_link.specs.declared.link.LinkEnd.{LinkEnd}
+use Rattle.control_link.specs.Calls.{Left, Outcome, TellsGot, datagrams_to, received, unchanged, unless_memory}
 use Rattle.control_link.specs.Envelope.{EnvelopeHistory}
 use Rattle.control_link.specs.Links.{KeptLink, Link, LinkStands}
 use Rattle.control_link.specs.Reading.{read_here, texts_here}
@@ -18,6 +22,7 @@ use Rattle.peer_table.specs.KeySessions.{Session}
 use Rattle.peer_table.specs.Outboxes.{actions_of}
 use Rattle.peer_lines.specs.declared.channels.SessionChannels.{SessionChannels}
 use Rattle.peer_lines.specs.Calls.{LineOutcome, Leaves, packet_taken, still}
+use Rattle.peer_lines.specs.internal.Packets.{end_in}
 use Rattle.peer_lines.specs.Standing.{IsOfSession, NoneIsLonger, StandsFor}
 use Rattle.peer_lines.proofs.Links.{data_relinked}
 use Rattle.peer_lines.proofs.Texts.{frame_read, none_longer_received}
@@ -66,3 +71,20 @@ left_reserved wrapped c env before reserved after to o same left = record {
       ((left.outbox role).0 ∙ ap (λ (t : List Action). t ++ actions_of role o.doings) same.0,
        (left.outbox role).1 ∙ ap (λ (t : List Datagram). t ++ datagrams_to to o.datagrams) same.1);
 }
+
+-- ---- what an answer of the link tells
+
+pub taken_of : (r : Result Got (Or LinkEnd)) (P : Outcome → Type 0) (o b : Outcome) → P (unless_memory r o b) → OnOk (end_in r) (P o)
+taken_of (Ok got) P o b left = left
+taken_of (Err (Why end)) P o b left = left
+taken_of (Err Memory) P o b left = tt
+
+pub kept_of : (r : Result Got (Or LinkEnd)) (P : Outcome → Type 0) (o b : Outcome) → P (unless_memory r o b) → OnErr (end_in r) (P b)
+kept_of (Ok got) P o b left = tt
+kept_of (Err (Why end)) P o b left = tt
+kept_of (Err Memory) P o b left = left
+
+pub end_of : (r : Result Got (Or LinkEnd)) (wanted : Got) (end : Option LinkEnd) → TellsGot r wanted end → IfOk (end_in r) (λ told. end ≡ told)
+end_of (Ok got) wanted end tells = tells.1
+end_of (Err (Why e)) wanted end tells = tells
+end_of (Err Memory) wanted end tells = tt

@@ -10,6 +10,7 @@ ghost use Rattle.peer_lines.specs.Standing.{BlankFor, StandsFor, has_data};
 ghost use Rattle.peer_lines.specs.Rooms.{KeepsRoom, longest, payload_room, plain_room, text_room};
 
 use crate::blank::SessionBlank;
+use crate::open_link::OpenLink;
 use control_link::ControlLink;
 use data_channel::DataChannel;
 use gcm_seal::AnyGcm;
@@ -23,7 +24,7 @@ use vpn_links::ControlText;
 /// once it has keys, its data channel.
 #[derive(Drop)]
 pub struct SessionChannels {
-    pub(crate) link: ControlLink,
+    pub(crate) link: OpenLink,
     pub(crate) plain: Vec<u8>,
     // how many bytes the longest payload has that was put into the link
     pub(crate) longest: usize,
@@ -48,12 +49,11 @@ impl SessionChannels {
         requires first { IsReset first }
         ensures stands { (timers : Timers) (number moment : ℕ) → BlankFor blank timers → kid ≡ kid_of number →
             StandsFor result (session_begun timers conn number first moment) }
-        ensures open { result.link.spent ≡ false }
         ensures there { has_data result ≡ false }
     {
         let SessionBlank { link, window, room } = blank;
         SessionChannels {
-            link: ControlLink::of_blank(link, conn, kid, first),
+            link: OpenLink::of(ControlLink::of_blank(link, conn, kid, first)),
             plain: Vec::new(alloc),
             longest: 0,
             window: Some(window),
@@ -72,7 +72,6 @@ impl SessionChannels {
         ensures keeps { KeepsRoom self.old self.new }
         ensures longest { longest self.new ≡ longest self.old }
         ensures there { has_data self.new ≡ has_data self.old }
-        ensures spent { self.new.link.spent ≡ self.old.link.spent }
     {
         self.link.reserve_payload(payload)?;
         self.link.reserve_text(text)?;

@@ -6,7 +6,7 @@ ghost use Rattle.vpn_links.specs.Actions.{Holds};
 ghost use Rattle.opcode_codec.specs.ControlText.{control_form};
 ghost use Rattle.reliable_send.specs.Sending.{cut};
 ghost use Rattle.reliable_send.specs.Sides.{IsNotMemory};
-ghost use Rattle.control_link.specs.Calls.{Told, tells_spent};
+ghost use Rattle.control_link.specs.Calls.{Told};
 ghost use Rattle.control_link.specs.Envelope.{EnvelopeHistory, EnvelopeStands};
 ghost use Rattle.peer_table.specs.KeySessions.{Session};
 ghost use Rattle.peer_table.specs.Outboxes.{HasRoom, Uses, actions_of};
@@ -19,7 +19,7 @@ use crate::channels::SessionChannels;
 use control_link::{Envelope, LinkEnd};
 use tls_crypt::Wrap;
 use vpn_base::{Addr, Conn, Moment, NoMemory, Or, Sid};
-use vpn_links::{ControlText, Effect, Outbox};
+use vpn_links::{Effect, Outbox};
 
 impl SessionChannels {
     /// Offers text to the other end, and sends what may be sent. It takes no memory where the outbox has room for 6
@@ -34,12 +34,10 @@ impl SessionChannels {
         now: Moment,
         out: &mut Outbox,
     ) -> Result<(), Or<LinkEnd>>
-        requires open { self.old.link.spent ≡ false }
-        ensures left { (s : Session) → (h : EnvelopeHistory) → StandsFor self.old s → EnvelopeStands W.wrapped env.old h →
+        ensures left { (s : Session) → (h : EnvelopeHistory) → StandsFor self.old s → s.link.spent ≡ false → EnvelopeStands W.wrapped env.old h →
             Leaves W.wrapped self.new env.new out.old out.new to (unless_wanting result (text_offered s h bytes.now remote now.0) (still s h)) }
-        ensures answer { (s : Session) → (h : EnvelopeHistory) → StandsFor self.old s → EnvelopeStands W.wrapped env.old h →
+        ensures answer { (s : Session) → (h : EnvelopeHistory) → StandsFor self.old s → s.link.spent ≡ false → EnvelopeStands W.wrapped env.old h →
             Told result (text_offered s h bytes.now remote now.0).end }
-        ensures spent { self.new.link.spent ≡ tells_spent result }
         ensures fits { HasRoom out.old 6 7200 → length (cut bytes.now) ≤ text_room self.old → IsNotMemory result }
         ensures uses { Uses out.old out.new 6 7200 }
         ensures there { has_data self.new ≡ has_data self.old }
@@ -58,12 +56,10 @@ impl SessionChannels {
         now: Moment,
         out: &mut Outbox,
     ) -> Result<(), Or<LinkEnd>>
-        requires open { self.old.link.spent ≡ false }
-        ensures left { (s : Session) → (h : EnvelopeHistory) → StandsFor self.old s → EnvelopeStands W.wrapped env.old h →
+        ensures left { (s : Session) → (h : EnvelopeHistory) → StandsFor self.old s → s.link.spent ≡ false → EnvelopeStands W.wrapped env.old h →
             Leaves W.wrapped self.new env.new out.old out.new to (unless_wanting result (begun_sent s h remote now.0) (still s h)) }
-        ensures answer { (s : Session) → (h : EnvelopeHistory) → StandsFor self.old s → EnvelopeStands W.wrapped env.old h →
+        ensures answer { (s : Session) → (h : EnvelopeHistory) → StandsFor self.old s → s.link.spent ≡ false → EnvelopeStands W.wrapped env.old h →
             Told result (begun_sent s h remote now.0).end }
-        ensures spent { self.new.link.spent ≡ tells_spent result }
         ensures fits { HasRoom out.old 6 7200 → IsNotMemory result }
         ensures uses { Uses out.old out.new 6 7200 }
         ensures there { has_data self.new ≡ has_data self.old }
@@ -82,12 +78,10 @@ impl SessionChannels {
         now: Moment,
         out: &mut Outbox,
     ) -> Result<(), Or<LinkEnd>>
-        requires open { self.old.link.spent ≡ false }
-        ensures left { (s : Session) → (h : EnvelopeHistory) → StandsFor self.old s → EnvelopeStands W.wrapped env.old h →
+        ensures left { (s : Session) → (h : EnvelopeHistory) → StandsFor self.old s → s.link.spent ≡ false → EnvelopeStands W.wrapped env.old h →
             Leaves W.wrapped self.new env.new out.old out.new to (unless_wanting result (due_sent s h remote now.0) (still s h)) }
-        ensures answer { (s : Session) → (h : EnvelopeHistory) → StandsFor self.old s → EnvelopeStands W.wrapped env.old h →
+        ensures answer { (s : Session) → (h : EnvelopeHistory) → StandsFor self.old s → s.link.spent ≡ false → EnvelopeStands W.wrapped env.old h →
             Told result (due_sent s h remote now.0).end }
-        ensures spent { self.new.link.spent ≡ tells_spent result }
         ensures fits { HasRoom out.old 6 7200 → IsNotMemory result }
         ensures uses { Uses out.old out.new 6 7200 }
         ensures there { has_data self.new ≡ has_data self.old }

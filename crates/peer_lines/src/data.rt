@@ -23,8 +23,8 @@ use hmac_kit::KeyBlock;
 use key_method2::{Source, server_message};
 use packet_ids::{Spent, Window};
 use peer_table::SessionFault;
-use vpn_base::{Addr, Cipher, Conn, Moment, NoMemory, Role};
-use vpn_links::{ControlText, Effect, Outbox};
+use vpn_base::{Addr, Cipher, Moment, NoMemory, Role};
+use vpn_links::{Effect, Outbox};
 
 // Why a session does not open a data packet.
 fn session_fault(fault: DataFault) -> SessionFault
@@ -119,7 +119,7 @@ impl SessionChannels {
         ensures there { (s : Session) → StandsFor self.old s → has_data self.old ≡ false → OnOk result (has_data self.new ≡ true) }
         ensures fits { HasRoom out.old 1 93 → IsOk result }
         ensures uses { Uses out.old out.new 1 93 }
-        ensures spent { self.new.link.spent ≡ self.old.link.spent }
+        ensures link { self.new.link ≡ self.old.link }
     {
         let message = server_message(own);
         match out.add(&Effect::EngineWrite {

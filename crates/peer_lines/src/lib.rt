@@ -6,6 +6,7 @@ mod channels;
 mod control;
 mod data;
 mod laws;
+mod open_link;
 mod plain;
 mod reading;
 

@@ -9,17 +9,19 @@ ghost use Rattle.control_link.specs.Calls.{Left, Told, received, tells_spent, un
 ghost use Rattle.control_link.specs.Envelope.{EnvelopeHistory, EnvelopeStands};
 ghost use Rattle.control_link.specs.Links.{Link, LinkStands};
 ghost use Rattle.control_link.specs.Reading.{read_here, texts_here};
-ghost use Rattle.peer_table.specs.ControlPackets.{puts};
+ghost use Rattle.peer_table.specs.ControlPackets.{most_in_order, puts};
 ghost use Rattle.peer_table.specs.KeySessions.{Session};
 ghost use Rattle.peer_table.specs.Outboxes.{HasRoom, Uses, actions_of};
 ghost use Rattle.peer_lines.specs.Calls.{Leaves, packet_taken, still, unless_wanting};
 ghost use Rattle.peer_lines.specs.Standing.{NoneIsLonger, StandsFor, has_data};
-ghost use Rattle.peer_lines.specs.internal.Packets.{ends_spent};
+ghost use Rattle.peer_lines.specs.internal.Packets.{end_in};
 ghost use Rattle.peer_lines.specs.Rooms.{longest, payload_room};
 
 use crate::channels::SessionChannels;
+use crate::open_link::OpenLink;
 use control_link::{ControlLink, Envelope, LinkEnd};
 use opcode_codec::ControlView;
+use reliable_recv::Got;
 use tls_crypt::Wrap;
 use vpn_base::{Addr, Conn, Moment, NoMemory, Or, Sid};
 use vpn_links::{ControlText, Effect, Outbox};
@@ -87,9 +89,34 @@ fn put_texts(
     }
 }
 
+// Puts the payloads of the text that are in order to the engine, of no more than so many bytes each.
+fn put_here(link: &mut OpenLink, longest: usize, out: &mut Outbox) -> Result<(), NoMemory>
+    ensures stands { OnOk result ((l : Link) → LinkStands link.old l → LinkStands link.new (read_here most_in_order l)) }
+    ensures put { OnOk result ((l : Link) (end : Role) → LinkStands link.old l →
+        Holds out.new (out.old.effects ++ actions_of end (puts l.conn (texts_here most_in_order l))) out.old.staged) }
+    ensures fits { (l : Link) → LinkStands link.old l → NoneIsLonger longest l.receiving.taken →
+        12 ≤ out.old.spare_effects → 12 * longest ≤ out.old.spare_bytes → IsOk result }
+    ensures uses { (out.old.spare_effects ≤ out.new.spare_effects + 12) × (out.old.spare_bytes ≤ out.new.spare_bytes + 12 * longest) }
+{
+    let conn = link.link.conn();
+    put_texts(MOST_PUT, longest, conn, &mut link.link, out)
+}
+
+// Whether an answer to a packet says that the wrap ids ended.
+fn ends(answer: &Result<Got, Or<LinkEnd>>) -> bool
+    ensures { result ≡ tells_spent answer.now }
+{
+    match answer {
+        Ok(_) => false,
+        Err(Or::Memory) => false,
+        Err(Or::Why(LinkEnd::TextFull)) => false,
+        Err(Or::Why(LinkEnd::WrapSpent)) => true,
+    }
+}
+
 // A control packet comes to the link.
 fn take_packet<W: Wrap + Drop>(
-    link: &mut ControlLink,
+    link: &mut OpenLink,
     view: &ControlView<'_>,
     env: &mut Envelope<W>,
     remote: Sid,
@@ -98,18 +125,28 @@ fn take_packet<W: Wrap + Drop>(
     out: &mut Outbox,
 ) -> Result<Option<LinkEnd>, NoMemory>
     requires acks { view.now.acks.count ≤ 8 }
-    requires open { link.old.spent ≡ false }
-    ensures taken { (l : Link) → (h : EnvelopeHistory) → LinkStands link.old l → EnvelopeStands W.wrapped env.old h →
+    ensures taken { link.old.spent ≡ false → (l : Link) → (h : EnvelopeHistory) → LinkStands link.old l → EnvelopeStands W.wrapped env.old h →
         OnOk result (Left W.wrapped link.new env.new out.old out.new to (received l h (control_form view.now) remote now.0)) }
-    ensures kept { (l : Link) → (h : EnvelopeHistory) → LinkStands link.old l → EnvelopeStands W.wrapped env.old h →
+    ensures kept { link.old.spent ≡ false → (l : Link) → (h : EnvelopeHistory) → LinkStands link.old l → EnvelopeStands W.wrapped env.old h →
         OnErr result (Left W.wrapped link.new env.new out.old out.new to (unchanged l h None)) }
-    ensures end { (l : Link) → (h : EnvelopeHistory) → LinkStands link.old l → EnvelopeStands W.wrapped env.old h →
+    ensures end { link.old.spent ≡ false → (l : Link) → (h : EnvelopeHistory) → LinkStands link.old l → EnvelopeStands W.wrapped env.old h →
         IfOk result (λ end. (received l h (control_form view.now) remote now.0).end ≡ end) }
     ensures fits { HasRoom out.old 6 7200 → length view.now.payload.now ≤ link.old.receiving.spare → IsOk result }
     ensures uses { Uses out.old out.new 6 7200 }
-    ensures spent { link.new.spent ≡ ends_spent result }
 {
-    match link.on_packet(view, env, remote, to, now, out) {
+    if link.spent {
+        return Ok(Some(LinkEnd::WrapSpent));
+    }
+    let answer = link.link.on_packet(view, env, remote, to, now, out);
+    link.spent = ends(&answer);
+    end_of(answer)
+}
+
+// The end that an answer to a packet tells, if it tells one.
+fn end_of(answer: Result<Got, Or<LinkEnd>>) -> Result<Option<LinkEnd>, NoMemory>
+    ensures { result ≡ end_in answer }
+{
+    match answer {
         Ok(_) => Ok(None),
         Err(Or::Why(end)) => Ok(Some(end)),
         Err(Or::Memory) => Err(NoMemory),
@@ -146,12 +183,10 @@ impl SessionChannels {
         out: &mut Outbox,
     ) -> Result<(), Or<LinkEnd>>
         requires acks { view.now.acks.count ≤ 8 }
-        requires open { self.old.link.spent ≡ false }
-        ensures left { (s : Session) → (h : EnvelopeHistory) → StandsFor self.old s → EnvelopeStands W.wrapped env.old h →
+        ensures left { (s : Session) → (h : EnvelopeHistory) → StandsFor self.old s → s.link.spent ≡ false → EnvelopeStands W.wrapped env.old h →
             Leaves W.wrapped self.new env.new out.old out.new to (unless_wanting result (packet_taken s h (control_form view.now) remote now.0) (still s h)) }
-        ensures answer { (s : Session) → (h : EnvelopeHistory) → StandsFor self.old s → EnvelopeStands W.wrapped env.old h →
+        ensures answer { (s : Session) → (h : EnvelopeHistory) → StandsFor self.old s → s.link.spent ≡ false → EnvelopeStands W.wrapped env.old h →
             Told result (packet_taken s h (control_form view.now) remote now.0).end }
-        ensures spent { self.new.link.spent ≡ tells_spent result }
         ensures fits { (room : ℕ) → room < 2 ^ 64 → 7200 + 12 * max (longest self.old) (length view.now.payload.now) ≤ room →
             HasRoom out.old 18 room → length view.now.payload.now ≤ payload_room self.old → IsNotMemory result }
         ensures uses { Uses out.old out.new 18 (7200 + 12 * max (longest self.old) (length view.now.payload.now)) }
@@ -171,13 +206,7 @@ impl SessionChannels {
         };
         self.longest = self.longest.max(view.payload.len());
         // No payload is longer than the longest, so the room is there and this does not fail.
-        let _ = put_texts(
-            MOST_PUT,
-            self.longest,
-            self.link.conn(),
-            &mut self.link,
-            out,
-        );
+        let _ = put_here(&mut self.link, self.longest, out);
         match end {
             None => Ok(()),
             Some(end) => Err(Or::Why(end)),

@@ -1,9 +1,10 @@
 -- The parts of a session's data channel.
-use Rattle.std.specs.Prelude.{ℕ, Bool, false, List, [], ◌∷◌, Option, Some, None, Result, Ok, Err}
+use Rattle.std.specs.Prelude.{ℕ, List, [], ◌∷◌, Option, Some, None, Result, Ok, Err}
 use Rattle.vpn_base.specs.declared.errors.NoMemory.{NoMemory}
-use Rattle.vpn_base.specs.declared.errors.Or.TheVariants.{Why}
+use Rattle.vpn_base.specs.declared.errors.Or.{Or}
+use Rattle.vpn_base.specs.declared.errors.Or.TheVariants.{Memory, Why}
+use Rattle.reliable_recv.specs.declared.receiving.Got.{Got}
 use Rattle.control_link.specs.declared.link.LinkEnd.{LinkEnd}
-use Rattle.control_link.specs.Calls.{tells_spent}
 use Rattle.gcm_seal.specs.declared.gcm.AnyGcm.{AnyGcm}
 use Rattle.packet_ids.specs.Freshness.{History}
 use Rattle.packet_ids.specs.Window.{Kept, Stands}
@@ -30,7 +31,8 @@ abbrev pub fault_of : DataFault → SessionFault
 fault_of packets.NotSealed = sessions.NotSealed
 fault_of (packets.Stale kind id greatest) = sessions.Stale kind id greatest
 
--- whether a packet came to the end of the wrap ids
-abbrev pub ends_spent : Result (Option LinkEnd) NoMemory → Bool
-ends_spent (Ok (Some end)) = tells_spent {A = Unit {0}} (Err (Why end))
-ends_spent _ = false
+-- the end that an answer to a packet tells, if it tells one, or want of memory
+abbrev pub end_in : Result Got (Or LinkEnd) → Result (Option LinkEnd) NoMemory
+end_in (Ok got) = Ok None
+end_in (Err (Why end)) = Ok (Some end)
+end_in (Err Memory) = Err (record {})
