@@ -3,10 +3,12 @@ use Rattle.std.proofs.Common.{◌≡◌, ◌≢◌, ◌↔◌, ◌+◌, ◌-◌,
 use Rattle.std.proofs.lemmas.Bool.{false≢true}
 use Rattle.gcm_seal.specs.declared.gcm.AnyGcm.{AnyGcm}
 use Rattle.packet_ids.specs.declared.sending.Spent.{Spent}
+use Rattle.packet_ids.specs.Freshness.{History}
 use Rattle.packet_ids.specs.Window.{Kept}
 use Rattle.data_channel.specs.declared.channel.DataChannel.{DataChannel}
 use Rattle.data_channel.specs.Standing.{GcmKeysStand}
-use Rattle.peer_table.specs.KeySessions.{Keyed, Keys, Session, Stage, keys_of}
+use Rattle.peer_table.specs.KeySessions as sessions
+use Rattle.peer_table.specs.KeySessions.{Keyed, Keys, Session, Stage, has_keys, is_keyed, keys_of}
 use Rattle.peer_lines.specs.internal.Packets.{IsFirst, IsWindowOf}
 use Rattle.peer_lines.specs.Standing.{DataStands, IsBeforeWith, IsKeyedBy, is_there}
 
@@ -85,3 +87,42 @@ on_ok (Err e) X Y f x = tt
 pub on_err : {A : Type 0} (r : Result A Spent) (X Y : Type 0) → (X → Y) → OnErr r X → OnErr r Y
 on_err (Ok a) X Y f x = tt
 on_err (Err e) X Y f x = f x
+
+-- ---- once it is made, or was there
+
+pub made_there : (window : Option Kept) (before after : List (DataChannel AnyGcm)) (s : Session) (keys : Keys) (kid : ℕ) → DataStands window before s →
+    ((received : History) → before ≡ [] → IsWindowOf window received → IsFirst after keys kid received) →
+    (is_there before ≡ true → after ≡ before) → is_there after ≡ true
+made_there window [] after s keys kid stands made same = first_there after keys kid s (made s.received refl (window_of window s stands))
+made_there window (x ∷ more) after s keys kid stands made same = ap (λ (t : List (DataChannel AnyGcm)). is_there t) (same refl)
+
+pub made_stands : (window other : Option Kept) (before after : List (DataChannel AnyGcm)) (s : Session) (keys : Keys) (kid : ℕ) → DataStands window before s →
+    s.stage ≡ Keyed keys → s.link.kid ≡ kid →
+    ((received : History) → before ≡ [] → IsWindowOf window received → IsFirst after keys kid received) →
+    (is_there before ≡ true → after ≡ before) → DataStands other after s
+made_stands window other [] after s keys kid stands stage is made same =
+    first_made other after s keys kid stage is (unsealed_of window s stands) (made s.received refl (window_of window s stands))
+made_stands window other (x ∷ more) after s keys kid stands stage is made same =
+    subst (λ (t : List (DataChannel AnyGcm)). DataStands other t s) (sym (same refl)) stands
+
+-- it is that of the session whatever was read of it
+pub data_kept : (window : Option Kept) (packets : List (DataChannel AnyGcm)) (s : Session) (read : ℕ) → is_there packets ≡ true →
+    DataStands window packets s → DataStands window packets (record s { read = read })
+data_kept window [] s read there stands = absurd (false≢true there)
+data_kept window (channel ∷ more) s read there stands = stands
+
+-- ---- whether it is there
+
+not_keyed : (channel : DataChannel AnyGcm) (s : Session) (stage : Stage) → is_keyed stage ≡ false → IsKeyedBy channel s (keys_of stage) → ⊥
+not_keyed channel s sessions.Opening none stands = stands
+not_keyed channel s sessions.Named none stands = stands
+not_keyed channel s (sessions.Keyed keys) none stands = false≢true (sym none)
+
+pub none_before : (window : Option Kept) (packets : List (DataChannel AnyGcm)) (s : Session) → has_keys s ≡ false → DataStands window packets s →
+    (is_there packets ≡ false) × (s.read ≡ 0) × (s.sealed ≡ 0)
+none_before window [] s none stands = (refl, unread_of window s stands, unsealed_of window s stands)
+none_before window (x ∷ more) s none stands = absurd (not_keyed x s s.stage none stands)
+
+pub there_after : (window : Option Kept) (packets : List (DataChannel AnyGcm)) (s : Session) → DataStands window packets s → s.read ≢ 0 → is_there packets ≡ true
+there_after window [] s stands some = absurd (some (unread_of window s stands))
+there_after window (x ∷ more) s stands some = refl

@@ -111,12 +111,12 @@ impl SessionChannels {
     ) -> Result<(), NoMemory>
         requires kid { kid < 8 }
         requires peer_id { peer_id < 2 ^ 24 }
-        ensures made { (s : Session) → StandsFor self.old s → has_data self.old ≡ false → s.link.kid ≡ kid → used ≤ length s.plain →
+        ensures made { (s : Session) → StandsFor self.old s → s.read ≡ 0 → s.link.kid ≡ kid → used ≤ length s.plain →
             s.stage ≡ Keyed (record { block = keys.now.0; cipher = cipher; peer_id = peer_id }) →
             OnOk result (StandsFor self.new (with_read used s)
                 × ((end : Role) → Holds out.new (out.old.effects ++ actions_of end (Writes s.link.conn (server_message own.now) ∷ [])) out.old.staged)) }
         ensures kept { (s : Session) → StandsFor self.old s → OnErr result (StandsFor self.new s × Holds out.new out.old.effects out.old.staged) }
-        ensures there { (s : Session) → StandsFor self.old s → has_data self.old ≡ false → OnOk result (has_data self.new ≡ true) }
+        ensures there { (s : Session) → StandsFor self.old s → OnOk result (has_data self.new ≡ true) }
         ensures fits { HasRoom out.old 1 93 → IsOk result }
         ensures uses { Uses out.old out.new 1 93 }
         ensures link { self.new.link ≡ self.old.link }
@@ -190,7 +190,7 @@ impl SessionChannels {
     }
 }
 
-// Makes the data channel of these keys over the window that waits for it.
+// Makes the data channel of these keys over the window that waits for it, where none is there.
 fn open_channel(
     window: &mut Option<Window>,
     packets: &mut Vec<DataChannel<AnyGcm>>,
@@ -204,8 +204,12 @@ fn open_channel(
     requires peer_id { peer_id < 2 ^ 24 }
     ensures made { (received : History) → packets.old.items ≡ [] → 1 ≤ vec_capacity packets.old → IsWindowOf window.old received → IsFirst packets.new.items
         (record { block = keys.now.0; cipher = cipher; peer_id = peer_id }) kid received }
+    ensures same { is_there packets.old.items ≡ true → packets.new.items ≡ packets.old.items }
     ensures capacity { vec_capacity packets.old ≤ vec_capacity packets.new }
 {
+    if !packets.is_empty() {
+        return;
+    }
     let Some(window) = window.take() else {
         return;
     };

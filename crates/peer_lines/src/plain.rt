@@ -6,7 +6,7 @@ ghost use Rattle.vpn_base.specs.declared.names.Role.{Role};
 ghost use Rattle.key_method2.specs.Reading.{reading};
 ghost use Rattle.key_method2.specs.Views.{read_seen};
 ghost use Rattle.peer_table.specs.Exchange.{is_nul};
-ghost use Rattle.peer_table.specs.KeySessions.{Session};
+ghost use Rattle.peer_table.specs.KeySessions.{Session, has_keys};
 ghost use Rattle.peer_lines.specs.Calls.{after_waiting, waiting, with_plain};
 ghost use Rattle.peer_lines.specs.Standing.{StandsFor, has_data};
 ghost use Rattle.peer_lines.specs.Rooms.{plain_room};
@@ -48,10 +48,9 @@ impl SessionChannels {
         Ok(())
     }
 
-    /// The key exchange message of the other end at the front of the plain text, before there is a data channel.
-    #[tactic(auto, unfolding(crate::specs::Standing::StandsFor, crate::specs::Standing::has_data))]
+    /// The key exchange message of the other end at the front of the plain text, before the session has keys.
     pub fn message(&self, from: Role) -> Km2ViewRead<'_>
-        ensures { (s : Session) → StandsFor self.now s → has_data self.now ≡ false → read_seen result ≡ reading from s.plain }
+        ensures { (s : Session) → StandsFor self.now s → has_keys s ≡ false → read_seen result ≡ reading from s.plain }
     {
         read_km2_view(&self.plain, from)
     }

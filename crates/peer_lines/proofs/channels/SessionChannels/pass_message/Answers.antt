@@ -10,6 +10,7 @@ use Rattle.peer_table.specs.KeySessions.{Session}
 use Rattle.peer_lines.specs.declared.channels.SessionChannels.{SessionChannels}
 use Rattle.peer_lines.specs.Calls.{after_waiting, passed_if}
 use Rattle.peer_lines.specs.Standing.{DataStands, IsOfSession, StandsFor, has_data, is_there}
+use Rattle.peer_lines.proofs.Packets.{data_kept}
 use Rattle.peer_lines.proofs.Nuls.{a_nul, before_nul, no_nul}
 use Rattle.peer_lines.proofs.channels.SessionChannels.pass_message.Goals as goal
 
@@ -20,12 +21,6 @@ none_waits s is = sym (ap (λ (b : Bool). passed_if s b) (no_nul (unread s) is))
 one_waits : (s : Session) (i : ℕ) → position is_nul (unread s) ≡ Some i → message_read s ≡ after_waiting s
 unfolding after_waiting
 one_waits s i is = sym (ap (λ (b : Bool). passed_if s b) (a_nul (unread s) i is))
-
--- a data channel is that of the session whatever was read of it
-data_kept : (window : Option Kept) (packets : List (DataChannel AnyGcm)) (s : Session) (read : ℕ) → is_there packets ≡ true →
-    DataStands window packets s → DataStands window packets (record s { read = read })
-data_kept window [] s read there stands = absurd (false≢true there)
-data_kept window (channel ∷ more) s read there stands = stands
 
 read_on : (s : Session) (i : ℕ) → position is_nul (unread s) ≡ Some i → i < length (unread s) → s.read ≤ length s.plain →
     (drop (i + 1) (unread s) ≡ unread (message_read s)) × ((message_read s).read ≤ length s.plain)
