@@ -1,14 +1,14 @@
 //! What an engine, a peer and the packets of openssl bring to the channels of one key session.
 
 use super::*;
-use control_link::Envelope;
+use control_link::{Envelope, LinkEnd};
 use hmac_kit::KeyBlock;
 use key_method2::{Km2ViewRead, Source};
 use opcode_codec::{Opcode, read_control};
 use std::alloc::Global;
 use std::test::Fail;
 use tls_crypt::{StaticKey, Wrapper};
-use vpn_base::{Addr, Cipher, Conn, Ip4, Moment, NoMemory, Role, Sid, Timers};
+use vpn_base::{Addr, Cipher, Conn, Ip4, Moment, NoMemory, Or, Role, Sid, Timers};
 use vpn_links::{ControlText, Effect, Outbox};
 
 const PEER: Addr = Addr {
@@ -71,6 +71,27 @@ fn begun(alloc: Global) -> Result<SessionChannels, NoMemory> {
     ))
 }
 
+// Packets that come, each with its opcode.
+const CAME: [(Opcode, &[u8]); 2] = [
+    (Opcode::Control, b"\0\0\0\0\x01hi"),
+    (Opcode::SoftReset, b"\0\0\0\0\0"),
+];
+
+fn come(
+    channels: &mut SessionChannels,
+    env: &mut Envelope<Wrapper>,
+    out: &mut Outbox,
+) -> Result<(), Or<LinkEnd>> {
+    for (op, plain) in CAME.iter() {
+        if let Ok(view) = read_control(plain, *op) {
+            channels.on_packet(&view, env, Sid([1; 8]), PEER, Moment(0), out)?;
+        }
+    }
+    channels.send_ready(env, Sid([1; 8]), PEER, Moment(0), out)?;
+    channels.say(b"yes", env, Sid([1; 8]), PEER, Moment(0), out)?;
+    channels.tick(env, Sid([1; 8]), PEER, Moment(0), out)
+}
+
 #[test]
 fn control_text_is_put(rt: HostRuntime) -> Result<(), Fail> {
     let alloc = rt.alloc();
@@ -79,34 +100,18 @@ fn control_text_is_put(rt: HostRuntime) -> Result<(), Fail> {
     let wrapper = Wrapper::new(&StaticKey([0x5A; 256]), Role::Server);
     let mut env = Envelope::new(alloc, wrapper, Sid([2; 8]), 1_700_000_000, 64, 15)?;
     let mut out = Outbox::make(alloc)?;
-    let remote = Sid([1; 8]);
     assert_eq!(rt; channels.packet_room(2), Some(7_224));
     // Text that came before the reset waits for it.
-    for (op, plain) in [
-        (Opcode::Control, b"\0\0\0\0\x01hi".as_slice()),
-        (Opcode::SoftReset, b"\0\0\0\0\0".as_slice()),
-    ] {
-        let Ok(view) = read_control(plain, op) else {
-            continue;
-        };
-        match channels.on_packet(&view, &mut env, remote, PEER, Moment(0), &mut out) {
-            Ok(()) => {}
-            Err(_) => break,
-        }
-    }
-    assert_eq!(rt; out.count(), 1);
-    assert_eq!(rt; channels.read_count(), 2);
-    assert_eq!(rt; channels.conn(), Conn(7));
+    assert_eq!(rt; come(&mut channels, &mut env, &mut out), Ok(()));
+    assert_eq!(rt; (out.count(), out.staged()), (1, 3));
+    assert_eq!(rt; (channels.conn(), channels.read_count()), (Conn(7), 2));
     Ok(())
 }
 
-#[test]
-fn keys_are_used(rt: HostRuntime) -> Result<(), Fail> {
-    let alloc = rt.alloc();
+// With keys, and a push request behind the message.
+fn keyed(alloc: Global, out: &mut Outbox) -> Result<SessionChannels, NoMemory> {
     let mut channels = begun(alloc)?;
-    channels.put_plain(b"\0\0\0\0\x02")?;
-    assert!(rt; matches!(channels.message(Role::Client), Km2ViewRead::More));
-    let mut out = Outbox::make(alloc)?;
+    channels.put_plain(b"\0\0\0\0\x02PUSH_REQUEST\0")?;
     channels.exchange(
         &keys(),
         Cipher::Aes128Gcm,
@@ -115,20 +120,43 @@ fn keys_are_used(rt: HostRuntime) -> Result<(), Fail> {
         5,
         &SOURCE,
         5,
-        &mut out,
+        out,
     )?;
-    channels.put_plain(b"PUSH_REQUEST\0")?;
+    Ok(channels)
+}
+
+#[test]
+fn plain_text_is_read(rt: HostRuntime) -> Result<(), Fail> {
+    let waiting = begun(rt.alloc())?;
+    assert!(rt; matches!(waiting.message(Role::Client), Km2ViewRead::More));
+    let mut out = Outbox::make(rt.alloc())?;
+    let mut channels = keyed(rt.alloc(), &mut out)?;
     assert!(rt; channels.next_message() == Some(b"PUSH_REQUEST".as_slice()));
     channels.pass_message();
     assert_eq!(rt; channels.unread(), 0);
+    assert!(rt; channels.has_data());
+    Ok(())
+}
+
+#[test]
+fn keys_are_used(rt: HostRuntime) -> Result<(), Fail> {
+    let mut out = Outbox::make(rt.alloc())?;
+    let mut channels = keyed(rt.alloc(), &mut out)?;
     out.reserve(1, 1_524)?;
     assert_eq!(rt; channels.seal(Role::Server, &INNER, PEER, &mut out), Ok(()));
     let mut datagram = OF_CLIENT;
     assert_eq!(rt; channels.unseal(Role::Server, &mut datagram, Moment(0)), Ok(20));
     channels.close(&mut out)?;
     channels_stand_on();
-    assert!(rt; channels.has_data());
-    assert!(rt; matches!(out.effect(1), Some(Effect::Wire { to: PEER, bytes }) if bytes == OF_SERVER.as_slice()));
+    assert!(rt; wire(out.effect(1)) == OF_SERVER.as_slice());
     assert_eq!(rt; out.count(), 3);
     Ok(())
+}
+
+// The bytes of an effect that sends to the other end.
+fn wire<'a>(effect: Option<Effect<'a>>) -> &'a [u8] {
+    match effect {
+        Some(Effect::Wire { to: PEER, bytes }) => bytes,
+        _ => &[],
+    }
 }
