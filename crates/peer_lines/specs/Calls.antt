@@ -1,5 +1,5 @@
 -- What the calls of a session's channels do, each as one function of the session and of what it was lent.
-use Rattle.std.specs.Prelude.{◌≡◌, ℕ, ◌+◌, ◌++◌, Bool, true, false, List, [], ◌∷◌, length, drop, Option, Some, None, Result, Ok, Err}
+use Rattle.std.specs.Prelude.{ℕ, ◌+◌, ◌++◌, Bool, true, false, List, [], Option, Some, None, Result, Ok, Err}
 use Rattle.std.specs.List.{before_first, list_any}
 use Rattle.vpn_base.specs.declared.address.Addr.{Addr}
 use Rattle.vpn_base.specs.declared.errors.Or.{Or}
@@ -102,6 +102,7 @@ with_read used s = record s { read = used }
 abbrev pub message_if : Session → Bool → Option (List ℕ)
 message_if s true = Some (before_first is_nul (unread s))
 message_if s false = None
+
 unfoldable pub waiting : Session → Option (List ℕ)
 waiting s = message_if s (list_any is_nul (unread s))
 
@@ -109,6 +110,7 @@ waiting s = message_if s (list_any is_nul (unread s))
 abbrev pub passed_if : Session → Bool → Session
 passed_if s true = message_read s
 passed_if s false = s
+
 unfoldable pub after_waiting : Session → Session
 after_waiting s = passed_if s (list_any is_nul (unread s))
 
@@ -118,6 +120,7 @@ after_waiting s = passed_if s (list_any is_nul (unread s))
 abbrev pub sealed_if : Session → Bool → Session
 sealed_if s false = record s { sealed = s.sealed + 1 }
 sealed_if s true = s
+
 unfoldable pub after_sealing : Session → Session
 after_sealing s = sealed_if s (ids_are_spent s)
 
@@ -125,6 +128,7 @@ after_sealing s = sealed_if s (ids_are_spent s)
 abbrev pub sealed_as : Role → Keys → Session → List ℕ → Bool → Result (List ℕ) Spent
 sealed_as role keys s inner false = Ok (sealed_under role keys s.link.kid (s.sealed + 1) inner)
 sealed_as role keys s inner true = Err (record {})
+
 unfoldable pub sealing_answer : Role → Keys → List ℕ → Session → Result (List ℕ) Spent
 sealing_answer role keys inner s = sealed_as role keys s inner (ids_are_spent s)
 

@@ -48,7 +48,7 @@ fn seal_with(
     requires room { HasRoom out.old 1 1524 }
     ensures sealed { (keys : Keys) (kid : ℕ) (received : History) (sealed : ℕ) → GcmKeysStand channel.old keys kid received sealed →
         OnOk result (GcmKeysStand channel.new keys kid received (sealed + 1)
-            × Holds out.new (out.old.effects ++ Wire to (sealed_under role keys kid (sealed + 1) inner.now) ∷ []) out.old.staged) }
+        × Holds out.new (out.old.effects ++ Wire to (sealed_under role keys kid (sealed + 1) inner.now) ∷ []) out.old.staged) }
     ensures kept { (keys : Keys) (kid : ℕ) (received : History) (sealed : ℕ) → GcmKeysStand channel.old keys kid received sealed →
         OnErr result (GcmKeysStand channel.new keys kid received sealed × Holds out.new out.old.effects out.old.staged) }
     ensures spent { (keys : Keys) (kid : ℕ) (received : History) (sealed : ℕ) → GcmKeysStand channel.old keys kid received sealed →
@@ -114,7 +114,7 @@ impl SessionChannels {
         ensures made { (s : Session) → StandsFor self.old s → s.read ≡ 0 → s.link.kid ≡ kid → used ≤ length s.plain →
             s.stage ≡ Keyed (record { block = keys.now.0; cipher = cipher; peer_id = peer_id }) →
             OnOk result (StandsFor self.new (with_read used s)
-                × ((end : Role) → Holds out.new (out.old.effects ++ actions_of end (Writes s.link.conn (server_message own.now) ∷ [])) out.old.staged)) }
+            × ((end : Role) → Holds out.new (out.old.effects ++ actions_of end (Writes s.link.conn (server_message own.now) ∷ [])) out.old.staged)) }
         ensures kept { (s : Session) → StandsFor self.old s → OnErr result (StandsFor self.new s × Holds out.new out.old.effects out.old.staged) }
         ensures there { (s : Session) → StandsFor self.old s → OnOk result (has_data self.new ≡ true) }
         ensures fits { HasRoom out.old 1 93 → IsOk result }
@@ -131,7 +131,15 @@ impl SessionChannels {
         }
         let used = used.min(self.plain.len());
         drop_front(&mut self.plain, used);
-        open_channel(&mut self.window, &mut self.packets, keys, cipher, role, kid, peer_id);
+        open_channel(
+            &mut self.window,
+            &mut self.packets,
+            keys,
+            cipher,
+            role,
+            kid,
+            peer_id,
+        );
         Ok(())
     }
 

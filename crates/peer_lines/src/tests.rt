@@ -62,13 +62,7 @@ fn keys() -> KeyBlock {
 
 fn begun(alloc: Global) -> Result<SessionChannels, NoMemory> {
     let blank = SessionBlank::make(alloc, &TIMERS)?;
-    Ok(SessionChannels::begin(
-        alloc,
-        blank,
-        Conn(7),
-        3,
-        Opcode::SoftReset,
-    ))
+    Ok(SessionChannels::begin(alloc, blank, Conn(7), 3, Opcode::SoftReset))
 }
 
 // Packets that come, each with its opcode.
@@ -145,7 +139,10 @@ fn keys_are_used(rt: HostRuntime) -> Result<(), Fail> {
     out.reserve(1, 1_524)?;
     assert_eq!(rt; channels.seal(Role::Server, &INNER, PEER, &mut out), Ok(()));
     let mut datagram = OF_CLIENT;
-    assert_eq!(rt; channels.unseal(Role::Server, &mut datagram, Moment(0)), Ok(20));
+    assert_eq!(rt;
+        channels.unseal(Role::Server, &mut datagram, Moment(0)),
+        Ok(20)
+    );
     channels.close(&mut out)?;
     channels_stand_on();
     assert!(rt; wire(out.effect(1)) == OF_SERVER.as_slice());

@@ -1,4 +1,4 @@
-use Rattle.std.proofs.Common.{◌≡◌, ◌≤◌, ◌<◌, ◌+◌, ◌*◌, ◌^◌, ℕ, length, max, false, true, None, Some, Result, Ok, Err, IsOk, OnOk, refl, sym, ◌∙◌, arith}
+use Rattle.std.proofs.Common.{None, Result, Ok, Err, IsOk, OnOk, refl, ◌∙◌, arith}
 use Rattle.std.proofs.lemmas.Bool.{false≢true}
 use Rattle.vpn_base.specs.declared.errors.NoMemory.{NoMemory}
 use Rattle.vpn_base.specs.declared.errors.Or.{Or}
@@ -22,7 +22,7 @@ returns-in-Err-take_packet-clause-left g c = λ s h stands is_open wraps.
     left_reserved g.W.Wrap.wrapped (record c.args.self.now { link = c.take_packet.new.link }) c.take_packet.new.env c.args.out.now c.reserve.new.self c.take_packet.new.out c.args.to (still s h)
     c.reserve.ensures.same
     (linked_left g.W.Wrap.wrapped c.args.self.now c.take_packet.new.link c.take_packet.new.env c.reserve.new.self c.take_packet.new.out c.args.to s h
-        (unchanged s.link h None) wanting stands (same_frame s.link) (c.in-Err-take_packet.ensures.kept (still_open c.args.self.now.link s.link stands.link is_open) s.link h stands.link wraps))
+    (unchanged s.link h None) wanting stands (same_frame s.link) (c.in-Err-take_packet.ensures.kept (still_open c.args.self.now.link s.link stands.link is_open) s.link h stands.link wraps))
 
 pub returns-in-Err-take_packet-clause-fits : goal.returns-in-Err-take_packet-clause-fits
 unfolding payload_room
@@ -48,7 +48,7 @@ returns-in-None-end-clause-left g c = λ s h stands is_open wraps.
     let room = c.in-Some.ensures.room in
     let uses = c.take_packet.ensures.uses in
     let ok : IsOk c.put_here.result = c.put_here.ensures.fits o.link left.link none
-        (omega (arith, given.0, uses.effects_left)) (omega (arith, given.1, room, uses.bytes_left, c.max-self.ensures)) in
+    (omega (arith, given.0, uses.effects_left)) (omega (arith, given.1, room, uses.bytes_left, c.max-self.ensures)) in
     taken_left g.W.Wrap.wrapped c.args.self.now c.put_here.new.link c.max-self.result c.take_packet.new.env c.args.out.now c.reserve.new.self c.take_packet.new.out c.put_here.new.out
     c.args.to s h v c.args.remote c.args.now.0 o.link.conn c.take_packet.new.link stands c.max-self.ensures c.reserve.ensures.same left
     (ok_of c.put_here.result _ ok c.put_here.ensures.stands o.link left.link) (λ end. ok_of c.put_here.result _ ok c.put_here.ensures.put o.link end left.link) refl
@@ -79,7 +79,7 @@ returns-in-Some-end-clause-left g c = λ s h stands is_open wraps.
     let room = c.in-Some.ensures.room in
     let uses = c.take_packet.ensures.uses in
     let ok : IsOk c.put_here.result = c.put_here.ensures.fits o.link left.link none
-        (omega (arith, given.0, uses.effects_left)) (omega (arith, given.1, room, uses.bytes_left, c.max-self.ensures)) in
+    (omega (arith, given.0, uses.effects_left)) (omega (arith, given.1, room, uses.bytes_left, c.max-self.ensures)) in
     taken_left g.W.Wrap.wrapped c.args.self.now c.put_here.new.link c.max-self.result c.take_packet.new.env c.args.out.now c.reserve.new.self c.take_packet.new.out c.put_here.new.out
     c.args.to s h v c.args.remote c.args.now.0 o.link.conn c.take_packet.new.link stands c.max-self.ensures c.reserve.ensures.same left
     (ok_of c.put_here.result _ ok c.put_here.ensures.stands o.link left.link) (λ end. ok_of c.put_here.result _ ok c.put_here.ensures.put o.link end left.link) refl
@@ -98,4 +98,3 @@ returns-in-Some-end-clause-uses g c =
       effects_left = omega (arith, grows.0, uses.effects_left, puts.0);
       bytes_left = omega (arith, grows.1, uses.bytes_left, puts.1, c.max-self.ensures);
     }
-
