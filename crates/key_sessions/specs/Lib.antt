@@ -1,2 +1,5 @@
 pub mod Names
 pub mod Sessions
+pub mod Slots
+pub mod Changes
+pub mod Looks

@@ -3,8 +3,12 @@
 
 mod name;
 mod session;
+mod slot;
+mod slots;
 mod text;
 
 pub use name::NameFault;
 pub use session::{KeySession, Keyed, Named, NoCipher, Opening, cipher_chosen, kid_of};
+pub use slot::{SessionSeen, Stage};
+pub use slots::Slots;
 pub use text::SessionText;

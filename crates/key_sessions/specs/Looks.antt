@@ -1,0 +1,25 @@
+-- What the calls of the slots that only look answer.
+use Rattle.std.specs.Prelude.{ℕ, Bool, List, [], ◌∷◌, Option, Some, None, option_map, slice_get}
+use Rattle.vpn_base.specs.declared.names.Cipher.{Cipher}
+use Rattle.vpn_base.specs.declared.names.Conn.{Conn}
+use Rattle.peer_table.specs.KeySessions.{Session, Keys, keys_of, kid_of, newest, newest_session, open_numbers, session_at, with_kid}
+use Rattle.peer_table.specs.KeySessions as sessions
+use Rattle.peer_table.specs.Places.{places_from}
+use Rattle.peer_table.specs.Exchange.{is_open_keyed}
+use Rattle.key_sessions.specs.declared.slot.Stage.{Stage}
+use Rattle.key_sessions.specs.declared.slot.Stage.TheVariants as stages
+use Rattle.key_sessions.specs.declared.slot.SessionSeen.{SessionSeen}
+
+-- how far a session's negotiation has come
+abbrev pub stage_of : sessions.Stage → Stage
+stage_of sessions.Opening = stages.Opening
+stage_of sessions.Named = stages.Named
+stage_of (sessions.Keyed keys) = stages.Keyed
+
+-- a session of this number as it is seen
+abbrev pub seen_as : ℕ → Session → SessionSeen
+seen_as n s = record { number = n; kid = kid_of n; conn = s.link.conn; began = record { 0 = s.began }; stage = stage_of s.stage; is_open = s.is_open }
+
+-- the session of a number as it is seen, if there is one
+unfoldable pub seen_at : List Session → ℕ → Option SessionSeen
+seen_at ss n = option_map (seen_as n) (slice_get ss n)

@@ -1,0 +1,112 @@
+//! What is kept of one key session beside the others of its client.
+
+ghost use Rattle.std.specs.Prelude.{◌≡◌, ℕ, IfSome, is_some};
+ghost use Rattle.peer_table.specs.KeySessions.{Session};
+ghost use Rattle.peer_table.specs.KeySessions as sessions;
+ghost use Rattle.key_sessions.specs.Sessions.{OpeningStands};
+ghost use Rattle.key_sessions.specs.Slots.{HasText, SlotStands, is_keyed_stage, is_open_stage, stage_seen};
+ghost use Rattle.key_sessions.specs.declared.slot.SlotStage.TheVariants as kept;
+
+use crate::session::{KeySession, Keyed, Named, Opening};
+use crate::text::{SessionText, conn_of};
+use vpn_base::{Conn, Moment};
+
+/// How far the negotiation of a key session has come.
+#[derive(Clone, Copy, Debug, PartialEq, Eq)]
+pub enum Stage {
+    /// It began.
+    Opening,
+    /// The other end's name is known.
+    Named,
+    /// It has keys, or had them.
+    Keyed,
+}
+
+/// A key session as it is seen beside the others of its client.
+#[derive(Clone, Copy, Debug, PartialEq, Eq)]
+pub struct SessionSeen {
+    /// Its number, from 0.
+    pub number: u64,
+    /// Its key id.
+    pub kid: u8,
+    /// Its engine connection.
+    pub conn: Conn,
+    /// When it began.
+    pub began: Moment,
+    /// How far its negotiation has come.
+    pub stage: Stage,
+    /// Whether it is open.
+    pub is_open: bool,
+}
+
+/// The stage of a session in its slot. Of one that is closed nothing is kept: it had keys.
+#[derive(Drop)]
+pub(crate) enum SlotStage {
+    Opening(Opening),
+    Named(Named),
+    Keyed(Keyed),
+    Closed,
+}
+
+/// What is kept of one session. Its text is there while it is open, or is out for a while.
+#[derive(Drop)]
+pub(crate) struct Slot<T> {
+    pub(crate) text: Option<T>,
+    pub(crate) conn: Conn,
+    pub(crate) began: Moment,
+    pub(crate) stage: SlotStage,
+}
+
+impl SlotStage {
+    // Whether the session is open.
+    pub(crate) fn is_open(&self) -> bool
+        ensures { result ≡ is_open_stage self.now }
+    {
+        match self {
+            SlotStage::Opening(_) => true,
+            SlotStage::Named(_) => true,
+            SlotStage::Keyed(_) => true,
+            SlotStage::Closed => false,
+        }
+    }
+
+    // Whether it is open and has keys.
+    pub(crate) fn is_keyed(&self) -> bool
+        ensures { result ≡ is_keyed_stage self.now }
+    {
+        match self {
+            SlotStage::Opening(_) => false,
+            SlotStage::Named(_) => false,
+            SlotStage::Keyed(_) => true,
+            SlotStage::Closed => false,
+        }
+    }
+
+    // How far it has come.
+    pub(crate) fn seen(&self) -> Stage
+        ensures { result ≡ stage_seen self.now }
+    {
+        match self {
+            SlotStage::Opening(_) => Stage::Opening,
+            SlotStage::Named(_) => Stage::Named,
+            SlotStage::Keyed(_) => Stage::Keyed,
+            SlotStage::Closed => Stage::Keyed,
+        }
+    }
+}
+
+// The slot of a session that begins.
+#[tactic(auto, unfolding(crate::specs::Sessions::OpeningStands))]
+pub(crate) fn slot_of<T: SessionText>(first: KeySession<T, Opening>) -> Slot<T>
+    ensures stands { (s : Session) → OpeningStands T.stands_for first s → SlotStands T.stands_for result s }
+    ensures stage { result.stage ≡ kept.Opening first.stage }
+    ensures text { HasText (is_open_stage result.stage) result.text }
+{
+    let conn = conn_of(&first.text);
+    Slot {
+        text: Some(first.text),
+        conn,
+        began: first.began,
+        stage: SlotStage::Opening(first.stage),
+    }
+}

@@ -1,0 +1,37 @@
+//! The key sessions of one client, in slots.
+
+ghost use Rattle.std.specs.Prelude.{◌≡◌, ℕ, [], ◌∷◌, List};
+ghost use Rattle.peer_table.specs.KeySessions.{Session};
+ghost use Rattle.key_sessions.specs.Sessions.{OpeningStands};
+ghost use Rattle.key_sessions.specs.Slots.{IsWhole, SlotsStand, newest_number, newest_stage, room};
+ghost use Rattle.key_sessions.specs.declared.slot.Stage.TheVariants as stages;
+
+use crate::session::{KeySession, Opening};
+use crate::slot::{Slot, slot_of};
+use crate::text::SessionText;
+use std::alloc::Global;
+
+/// All key sessions of one client: the newest, and the list of all before it. A closed one loses its text
+/// and keeps its number.
+#[derive(Drop)]
+pub struct Slots<T> {
+    pub(crate) earlier: Vec<Slot<T>>,
+    pub(crate) newest: Slot<T>,
+}
+
+impl<T: SessionText> Slots<T> {
+    /// The slots of a client whose session 0 has just begun. It takes no memory.
+    #[tactic(auto, unfolding(crate::specs::Sessions::OpeningStands, crate::specs::Slots::SlotsStand, crate::specs::Slots::newest_stage, crate::specs::Slots::newest_number, crate::specs::Slots::IsWhole))]
+    pub fn new(alloc: Global, first: KeySession<T, Opening>) -> Slots<T>
+        requires { first.number ≡ 0 }
+        ensures stands { (s : Session) → OpeningStands T.stands_for first s → SlotsStand T.stands_for result (s ∷ []) }
+        ensures stage { newest_stage result ≡ stages.Opening }
+        ensures number { newest_number result ≡ 0 }
+        ensures whole { IsWhole result }
+    {
+        Slots {
+            earlier: Vec::new(alloc),
+            newest: slot_of(first),
+        }
+    }
+}
