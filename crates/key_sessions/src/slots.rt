@@ -1,9 +1,10 @@
 //! The key sessions of one client, in slots.
 
-ghost use Rattle.std.specs.Prelude.{◌≡◌, ℕ, [], ◌∷◌, List};
+ghost use Rattle.std.specs.Prelude.{◌≡◌, ℕ, [], ◌∷◌, List, length, slice_get};
+ghost use Rattle.std.specs.Option.{option_copied};
 ghost use Rattle.peer_table.specs.KeySessions.{Session};
 ghost use Rattle.key_sessions.specs.Sessions.{OpeningStands};
-ghost use Rattle.key_sessions.specs.Slots.{IsWhole, SlotsStand, newest_number, newest_stage, room};
+ghost use Rattle.key_sessions.specs.Slots.{IsWhole, all_slots, SlotsStand, newest_number, newest_stage, room};
 ghost use Rattle.key_sessions.specs.declared.slot.Stage.TheVariants as stages;
 
 use crate::session::{KeySession, Opening};
@@ -32,6 +33,32 @@ impl<T: SessionText> Slots<T> {
         Slots {
             earlier: Vec::new(alloc),
             newest: slot_of(first),
+        }
+    }
+}
+
+impl<T> Slots<T> {
+    // The number of the newest session.
+    #[tactic(auto, unfolding(crate::specs::Slots::newest_number))]
+    pub(crate) fn newest_number(&self) -> u64
+        ensures number { result ≡ newest_number self.now }
+        ensures length { result ≡ length self.now.earlier.items }
+    {
+        self.earlier.len() as u64
+    }
+
+    // The slot of a number, if there is one.
+    #[tactic(auto, using(crate::proofs::Each::at_end, crate::proofs::Each::before_end, crate::proofs::Each::past_end))]
+    pub(crate) fn slot(&self, number: u64) -> Option<&Slot<T>>
+        ensures { option_copied result ≡ slice_get (all_slots self.now) number }
+    {
+        let newest = self.newest_number();
+        if number < newest {
+            Some(&self.earlier[number as usize])
+        } else if number == newest {
+            Some(&self.newest)
+        } else {
+            None
         }
     }
 }
