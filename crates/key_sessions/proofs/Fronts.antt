@@ -5,16 +5,7 @@ use Rattle.std.specs.Prelude.{◌&&◌, slice_get}
 use Rattle.peer_table.specs.KeySessions.{Session, has_keys, keyed_before, newest_usable, retiring}
 use Rattle.peer_table.specs.Orderly.{all_before_have_keys}
 use Rattle.peer_table.specs.Places.{last_place, later}
-
--- the number before
-abbrev pub number_before : ℕ → Option ℕ
-number_before zero = None
-number_before (suc n) = Some n
-
--- a number, or the one before
-abbrev pub number_if : Bool → ℕ → Option ℕ
-number_if true n = Some n
-number_if false n = number_before n
+use Rattle.key_sessions.specs.internal.Numbers.{number_before, number_if}
 
 both : {a b : Bool} → (a && b) ≡ true → (a ≡ true) × (b ≡ true)
 both {a = true} {b = b} e = (refl, e)
@@ -39,8 +30,9 @@ last_of_front [] n keyed below = absurd (omega (arith, below))
 last_of_front (s ∷ ss) zero keyed below = refl
 last_of_front (s ∷ []) (suc n) keyed below = absurd (omega (arith, below))
 last_of_front (s ∷ t ∷ ss) (suc n) keyed below =
-    let have : has_keys s ≡ true = (both keyed).0 in
-    let others : all_before_have_keys (t ∷ ss) ≡ true = (both keyed).1 in
+    let parts = both {a = has_keys s} {b = all_before_have_keys (t ∷ ss)} keyed in
+    let have = parts.0 in
+    let others = parts.1 in
     let rest = last_of_front (t ∷ ss) n others (omega (arith, below)) in
     rw have (rw rest (later_before n))
 
@@ -52,7 +44,8 @@ last_of_all (a ∷ []) zero s keyed size is = let same : a ≡ s = cc is in rw s
 last_of_all (a ∷ []) (suc n) s keyed size is = absurd (omega (arith, size))
 last_of_all (a ∷ b ∷ ss) zero s keyed size is = absurd (omega (arith, size))
 last_of_all (a ∷ b ∷ ss) (suc n) s keyed size is =
-    let have : has_keys a ≡ true = (both keyed).0 in
-    let others : all_before_have_keys (b ∷ ss) ≡ true = (both keyed).1 in
+    let parts = both {a = has_keys a} {b = all_before_have_keys (b ∷ ss)} keyed in
+    let have = parts.0 in
+    let others = parts.1 in
     let rest = last_of_all (b ∷ ss) n s others (omega (arith, size)) is in
     rw have (rw rest (later_if (has_keys s) n))

@@ -1,3 +1,4 @@
 mod Names
 mod Each
 mod Fronts
+mod Usable

@@ -3,3 +3,4 @@ pub mod Sessions
 pub mod Slots
 pub mod Changes
 pub mod Looks
+pub mod internal

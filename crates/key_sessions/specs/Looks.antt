@@ -8,6 +8,8 @@ use Rattle.peer_table.specs.Places.{places_from}
 use Rattle.peer_table.specs.Exchange.{is_open_keyed}
 use Rattle.key_sessions.specs.declared.slot.Stage.{Stage}
 use Rattle.key_sessions.specs.declared.slot.Stage.TheVariants as stages
+use Rattle.vpn_base.specs.declared.names.Moment.{Moment}
+use Rattle.key_sessions.specs.declared.slot.Newest.{Newest}
 use Rattle.key_sessions.specs.declared.slot.SessionSeen.{SessionSeen}
 
 -- how far a session's negotiation has come
@@ -23,3 +25,16 @@ seen_as n s = record { number = n; kid = kid_of n; conn = s.link.conn; began = r
 -- the session of a number as it is seen, if there is one
 unfoldable pub seen_at : List Session → ℕ → Option SessionSeen
 seen_at ss n = option_map (seen_as n) (slice_get ss n)
+
+-- a session of this number as the newest one
+abbrev pub newest_as : ℕ → Session → Newest
+newest_as n s = record { stage = stage_of s.stage; number = n; began = record { 0 = s.began } }
+
+-- the newest session as it is seen
+unfoldable pub newest_seen : List Session → Option Newest
+newest_seen ss = option_map (newest_as (newest ss)) (newest_session ss)
+
+-- when a session began, if there is one
+abbrev pub began_of : Option Session → Option Moment
+began_of None = None
+began_of (Some s) = Some (record { 0 = s.began })

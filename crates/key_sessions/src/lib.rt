@@ -1,6 +1,7 @@
 //! The key sessions of one client.
 #![tactic(auto)]
 
+mod looks;
 mod name;
 mod session;
 mod slot;
@@ -9,6 +10,6 @@ mod text;
 
 pub use name::NameFault;
 pub use session::{KeySession, Keyed, Named, NoCipher, Opening, cipher_chosen, kid_of};
-pub use slot::{SessionSeen, Stage};
+pub use slot::{Newest, SessionSeen, Stage};
 pub use slots::Slots;
 pub use text::SessionText;

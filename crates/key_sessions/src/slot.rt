@@ -5,6 +5,7 @@ ghost use Rattle.peer_table.specs.KeySessions.{Session};
 ghost use Rattle.peer_table.specs.KeySessions as sessions;
 ghost use Rattle.key_sessions.specs.Sessions.{OpeningStands};
 ghost use Rattle.key_sessions.specs.Slots.{HasText, SlotStands, is_keyed_stage, is_open_stage, stage_seen};
+ghost use Rattle.key_sessions.specs.internal.Numbers.{had_keys};
 ghost use Rattle.key_sessions.specs.declared.slot.SlotStage.TheVariants as kept;
 
 use crate::session::{KeySession, Keyed, Named, Opening};
@@ -20,6 +21,17 @@ pub enum Stage {
     Named,
     /// It has keys, or had them.
     Keyed,
+}
+
+/// The newest key session of a client.
+#[derive(Clone, Copy, Debug, PartialEq, Eq)]
+pub struct Newest {
+    /// How far its negotiation has come.
+    pub stage: Stage,
+    /// Its number, from 0.
+    pub number: u64,
+    /// When it began.
+    pub began: Moment,
 }
 
 /// A key session as it is seen beside the others of its client.
@@ -79,6 +91,18 @@ impl SlotStage {
             SlotStage::Named(_) => false,
             SlotStage::Keyed(_) => true,
             SlotStage::Closed => false,
+        }
+    }
+
+    // Whether it has keys, or had them.
+    pub(crate) fn had_keys(&self) -> bool
+        ensures { result ≡ had_keys self.now }
+    {
+        match self {
+            SlotStage::Opening(_) => false,
+            SlotStage::Named(_) => false,
+            SlotStage::Keyed(_) => true,
+            SlotStage::Closed => true,
         }
     }
 

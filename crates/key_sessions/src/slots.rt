@@ -5,6 +5,7 @@ ghost use Rattle.std.specs.Option.{option_copied};
 ghost use Rattle.peer_table.specs.KeySessions.{Session};
 ghost use Rattle.key_sessions.specs.Sessions.{OpeningStands};
 ghost use Rattle.key_sessions.specs.Slots.{IsWhole, all_slots, SlotsStand, newest_number, newest_stage, room};
+ghost use Rattle.key_sessions.specs.internal.Numbers.{had_keys, number_before, number_if};
 ghost use Rattle.key_sessions.specs.declared.slot.Stage.TheVariants as stages;
 
 use crate::session::{KeySession, Opening};
@@ -61,4 +62,23 @@ impl<T> Slots<T> {
             None
         }
     }
+
+    // The number of the last session that has keys, or had them.
+    pub(crate) fn last_keyed(&self) -> Option<u64>
+        ensures { result ≡ number_if (had_keys self.now.newest.stage) (length self.now.earlier.items) }
+    {
+        let newest = self.newest_number();
+        if self.newest.stage.had_keys() {
+            Some(newest)
+        } else {
+            number_before(newest)
+        }
+    }
+}
+
+// The number before.
+pub(crate) fn number_before(number: u64) -> Option<u64>
+    ensures { result ≡ number_before number }
+{
+    if number == 0 { None } else { Some(number - 1) }
 }

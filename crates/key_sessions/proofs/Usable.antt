@@ -1,0 +1,172 @@
+-- Which sessions are usable, told by the slots.
+use Rattle.std.proofs.Common.{◌≡◌, ℕ, zero, suc, ◌+◌, ◌<◌, ◌≤◌, Bool, true, false, List, [], ◌∷◌, ◌++◌, length, take, Option, Some, None, refl, ap, sym, subst, ◌∙◌, arith, rules}
+use Rattle.std.specs.Prelude.{not, option_map, slice_get}
+use Rattle.vpn_base.specs.declared.names.Moment.{Moment}
+use Rattle.vpn_base.specs.declared.names.Timers.{Timers}
+use Rattle.std.proofs.lemmas.List.{length-append}
+use Rattle.std.proofs.lemmas.Option.{none-some}
+use Rattle.peer_table.specs.KeySessions.{Session, Keyed, Named, Opening, began_before, has_keys, has_passed, in_transition, session_at, is_keyed, keyed_before, newest, newest_session, newest_usable, retiring}
+use Rattle.key_sessions.specs.declared.slot.Stage.{Stage}
+use Rattle.key_sessions.specs.declared.slot.Newest.{Newest}
+use Rattle.peer_table.specs.KeySessions as sessions
+use Rattle.peer_table.specs.Places.{last_place}
+use Rattle.key_sessions.specs.declared.slot.Slot.{Slot}
+use Rattle.key_sessions.specs.declared.slots.Slots.{Slots}
+use Rattle.key_sessions.specs.declared.slot.SlotStage.{SlotStage}
+use Rattle.key_sessions.specs.declared.slot.SlotStage.TheVariants as kept
+use Rattle.key_sessions.specs.Slots.{AreSlotsOf, EachStands, IsStage, SlotStands, SlotsStand, all_slots, stage_seen}
+use Rattle.key_sessions.specs.Looks.{began_of, newest_as, newest_seen, stage_of}
+use Rattle.key_sessions.specs.internal.Numbers.{had_keys, number_before, number_before_that, number_if}
+use Rattle.key_sessions.proofs.Each.{BothAt, at_end, both_at, same_length}
+use Rattle.key_sessions.proofs.Fronts.{last_of_all, last_of_front}
+
+-- what is kept tells whether a session has keys
+pub same_keys : (kept : SlotStage) (stage : sessions.Stage) → IsStage kept stage → is_keyed stage ≡ had_keys kept
+same_keys (kept.Opening k) Opening is = refl
+same_keys (kept.Opening k) Named is = absurd is
+same_keys (kept.Opening k) (Keyed keys) is = absurd is
+same_keys (kept.Named k) Opening is = absurd is
+same_keys (kept.Named k) Named is = refl
+same_keys (kept.Named k) (Keyed keys) is = absurd is
+same_keys (kept.Keyed k) Opening is = absurd is
+same_keys (kept.Keyed k) Named is = absurd is
+same_keys (kept.Keyed k) (Keyed keys) is = refl
+same_keys kept.Closed Opening is = absurd is
+same_keys kept.Closed Named is = absurd is
+same_keys kept.Closed (Keyed keys) is = refl
+
+-- there is one session more than earlier slots
+pub session_count : {T : Type 0} (stands_for : T → Session → Type 0) (slots : Slots T) (ss : List Session) →
+    AreSlotsOf stands_for slots ss → length ss ≡ suc (length slots.earlier.items)
+session_count stands_for slots ss are =
+    omega (arith, same_length stands_for (all_slots slots) ss are.each, length-append slots.earlier.items (slots.newest ∷ []))
+
+-- a session at the place of a slot stands there
+pub some_at : {T : Type 0} (stands_for : T → Session → Type 0) (slot : Slot T) (o : Option Session) → BothAt stands_for (Some slot) o →
+    (s : Session) × (o ≡ Some s) × SlotStands stands_for slot s
+some_at stands_for slot None at = absurd at
+some_at stands_for slot (Some s) at = (s, refl, at)
+
+-- the newest slot stands for the newest session
+pub newest_stands : {T : Type 0} (stands_for : T → Session → Type 0) (slots : Slots T) (ss : List Session) → AreSlotsOf stands_for slots ss →
+    (s : Session) × (slice_get ss (length slots.earlier.items) ≡ Some s) × SlotStands stands_for slots.newest s
+newest_stands {T = T} stands_for slots ss are =
+    let here = both_at stands_for (all_slots slots) ss (length slots.earlier.items) are.each in
+    some_at stands_for slots.newest (slice_get ss (length slots.earlier.items))
+    (subst (λ (o : Option (Slot T)). BothAt stands_for o (slice_get ss (length slots.earlier.items))) (at_end slots.earlier.items slots.newest) here)
+
+-- the last session with keys
+pub newest_usable_is : {T : Type 0} (stands_for : T → Session → Type 0) (slots : Slots T) (ss : List Session) → SlotsStand stands_for slots ss →
+    newest_usable ss ≡ number_if (had_keys slots.newest.stage) (length slots.earlier.items)
+unfolding SlotsStand newest_usable
+newest_usable_is stands_for slots ss are =
+    let last = newest_stands stands_for slots ss are in
+    let all = last_of_all ss (length slots.earlier.items) last.0 are.orderly.keyed (session_count stands_for slots ss are) last.1 in
+    all ∙ ap (λ (b : Bool). number_if b (length slots.earlier.items)) (same_keys slots.newest.stage last.0.stage last.2.stage)
+
+before_is : (ss : List Session) (m : ℕ) (b : Bool) → sessions.has_keys ≡ sessions.has_keys → (length ss ≡ suc m) →
+    ((n : ℕ) → n < length ss → last_place has_keys (take n ss) ≡ number_before n) →
+    keyed_before ss (number_if b m) ≡ number_before_that (number_if b m)
+before_is ss m true e size fronts = fronts m (omega (arith, size))
+before_is ss zero false e size fronts = refl
+before_is ss (suc m) false e size fronts = fronts m (omega (arith, size))
+
+-- the one before it
+pub retiring_is : {T : Type 0} (stands_for : T → Session → Type 0) (slots : Slots T) (ss : List Session) → SlotsStand stands_for slots ss →
+    retiring ss ≡ number_before_that (number_if (had_keys slots.newest.stage) (length slots.earlier.items))
+unfolding SlotsStand retiring
+retiring_is stands_for slots ss are =
+    ap (keyed_before ss) (newest_usable_is stands_for slots ss are) ∙
+    before_is ss (length slots.earlier.items) (had_keys slots.newest.stage) refl (session_count stands_for slots ss are)
+    (λ n below. last_of_front ss n are.orderly.keyed below)
+
+-- the slot of a number stands for the session of that number
+pub stands_at : {T : Type 0} (stands_for : T → Session → Type 0) (slots : Slots T) (ss : List Session) (n : ℕ) (slot : Slot T) →
+    SlotsStand stands_for slots ss → slice_get (all_slots slots) n ≡ Some slot →
+    (s : Session) × (slice_get ss n ≡ Some s) × SlotStands stands_for slot s
+unfolding SlotsStand
+stands_at {T = T} stands_for slots ss n slot are is =
+    some_at stands_for slot (slice_get ss n)
+    (subst (λ (o : Option (Slot T)). BothAt stands_for o (slice_get ss n)) is (both_at stands_for (all_slots slots) ss n are.each))
+
+none_here : {T : Type 0} (stands_for : T → Session → Type 0) (o : Option Session) → BothAt stands_for None o → o ≡ None
+none_here stands_for None at = refl
+none_here stands_for (Some s) at = absurd at
+
+-- where there is no slot there is no session
+pub none_at : {T : Type 0} (stands_for : T → Session → Type 0) (slots : Slots T) (ss : List Session) (n : ℕ) →
+    SlotsStand stands_for slots ss → slice_get (all_slots slots) n ≡ None → slice_get ss n ≡ None
+unfolding SlotsStand
+none_at {T = T} stands_for slots ss n are is =
+    none_here stands_for (slice_get ss n)
+    (subst (λ (o : Option (Slot T)). BothAt stands_for o (slice_get ss n)) is (both_at stands_for (all_slots slots) ss n are.each))
+
+-- the number of the newest session
+pub newest_is : {T : Type 0} (stands_for : T → Session → Type 0) (slots : Slots T) (ss : List Session) → SlotsStand stands_for slots ss →
+    newest ss ≡ length slots.earlier.items
+unfolding SlotsStand
+newest_is stands_for slots ss are = omega (arith, session_count stands_for slots ss are)
+
+-- how far a session has come
+pub same_stage : (kept : SlotStage) (stage : sessions.Stage) → IsStage kept stage → stage_of stage ≡ stage_seen kept
+same_stage (kept.Opening k) Opening is = refl
+same_stage (kept.Opening k) Named is = absurd is
+same_stage (kept.Opening k) (Keyed keys) is = absurd is
+same_stage (kept.Named k) Opening is = absurd is
+same_stage (kept.Named k) Named is = refl
+same_stage (kept.Named k) (Keyed keys) is = absurd is
+same_stage (kept.Keyed k) Opening is = absurd is
+same_stage (kept.Keyed k) Named is = absurd is
+same_stage (kept.Keyed k) (Keyed keys) is = refl
+same_stage kept.Closed Opening is = absurd is
+same_stage kept.Closed Named is = absurd is
+same_stage kept.Closed (Keyed keys) is = refl
+
+abbrev seen_with : Stage → ℕ → Moment → Option Newest
+seen_with stage number began = Some (record { stage = stage; number = number; began = began })
+
+seen_so : {a b : Stage} {m n : ℕ} {x y : Moment} → a ≡ b → m ≡ n → x ≡ y → seen_with a m x ≡ seen_with b n y
+seen_so e f h = cc
+
+-- the newest session as it is seen
+pub newest_seen_is : {T : Type 0} (stands_for : T → Session → Type 0) (slots : Slots T) (ss : List Session) (stage : Stage) (n : ℕ) →
+    SlotsStand stands_for slots ss → stage ≡ stage_seen slots.newest.stage → n ≡ length slots.earlier.items →
+    newest_seen ss ≡ Some (record { stage = stage; number = n; began = slots.newest.began })
+unfolding SlotsStand newest_seen
+newest_seen_is {T = T} stands_for slots ss stage n are is_stage is_number =
+    let here = newest_stands stands_for slots ss are in
+    let number : newest ss ≡ n = newest_is stands_for slots ss are ∙ sym is_number in
+    let at : newest_session ss ≡ Some here.0 = ap (slice_get ss) (newest_is stands_for slots ss are) ∙ here.1 in
+    let same : stage_of here.0.stage ≡ stage = same_stage slots.newest.stage here.0.stage here.2.stage ∙ sym is_stage in
+    let moment : record { 0 = here.0.began } ≡ slots.newest.began = ap (λ (m : ℕ). record { 0 = m }) (sym here.2.began) in
+    ap (option_map (newest_as (newest ss))) at ∙ seen_so same number moment
+
+-- ---- the transition
+
+began_so : (seconds now : ℕ) (o : Option Session) (since : Moment) → began_of o ≡ Some since → began_before seconds now o ≡ has_passed seconds since.0 now
+began_so seconds now None since is = absurd (none-some since is)
+began_so seconds now (Some s) since is = let same : s.began ≡ since.0 = cc is in ap (λ (m : ℕ). has_passed seconds m now) same
+
+not_began : (seconds now : ℕ) (o : Option Session) → began_of o ≡ None → began_before seconds now o ≡ false
+not_began seconds now None is = refl
+not_began seconds now (Some s) is = absurd (none-some _ (sym is))
+
+-- before the first exchange nothing is over
+pub transition_before : (timers : Timers) (now : ℕ) (ss : List Session) → newest_usable ss ≡ None → in_transition timers now ss ≡ true
+unfolding in_transition
+transition_before timers now ss none = ap (λ (o : Option ℕ). not (began_before timers.tran now (session_at ss o))) none
+
+-- the last session with keys began at a moment
+pub transition_since : (timers : Timers) (now tran last : ℕ) (ss : List Session) (since : Moment) → newest_usable ss ≡ Some last → timers.tran ≡ tran →
+    began_of (slice_get ss last) ≡ Some since → in_transition timers now ss ≡ not (has_passed tran since.0 now)
+unfolding in_transition
+transition_since timers now tran last ss since is same began =
+    ap (λ (o : Option ℕ). not (began_before timers.tran now (session_at ss o))) is ∙
+    ap not (began_so timers.tran now (slice_get ss last) since began) ∙ ap (λ (t : ℕ). not (has_passed t since.0 now)) same
+
+-- there is none of that number
+pub transition_without : (timers : Timers) (now last : ℕ) (ss : List Session) → newest_usable ss ≡ Some last →
+    began_of (slice_get ss last) ≡ None → in_transition timers now ss ≡ true
+unfolding in_transition
+transition_without timers now last ss is began =
+    ap (λ (o : Option ℕ). not (began_before timers.tran now (session_at ss o))) is ∙ ap not (not_began timers.tran now (slice_get ss last) began)
