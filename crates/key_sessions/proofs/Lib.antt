@@ -2,3 +2,4 @@ mod Names
 mod Each
 mod Fronts
 mod Usable
+mod Walks

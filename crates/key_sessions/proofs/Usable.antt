@@ -31,9 +31,9 @@ same_keys (kept.Named k) (Keyed keys) is = absurd is
 same_keys (kept.Keyed k) Opening is = absurd is
 same_keys (kept.Keyed k) Named is = absurd is
 same_keys (kept.Keyed k) (Keyed keys) is = refl
-same_keys kept.Closed Opening is = absurd is
-same_keys kept.Closed Named is = absurd is
-same_keys kept.Closed (Keyed keys) is = refl
+same_keys (kept.Closed cipher) Opening is = absurd is
+same_keys (kept.Closed cipher) Named is = absurd is
+same_keys (kept.Closed cipher) (Keyed keys) is = refl
 
 -- there is one session more than earlier slots
 pub session_count : {T : Type 0} (stands_for : T → Session → Type 0) (slots : Slots T) (ss : List Session) →
@@ -118,9 +118,9 @@ same_stage (kept.Named k) (Keyed keys) is = absurd is
 same_stage (kept.Keyed k) Opening is = absurd is
 same_stage (kept.Keyed k) Named is = absurd is
 same_stage (kept.Keyed k) (Keyed keys) is = refl
-same_stage kept.Closed Opening is = absurd is
-same_stage kept.Closed Named is = absurd is
-same_stage kept.Closed (Keyed keys) is = refl
+same_stage (kept.Closed cipher) Opening is = absurd is
+same_stage (kept.Closed cipher) Named is = absurd is
+same_stage (kept.Closed cipher) (Keyed keys) is = refl
 
 abbrev seen_with : Stage → ℕ → Moment → Option Newest
 seen_with stage number began = Some (record { stage = stage; number = number; began = began })

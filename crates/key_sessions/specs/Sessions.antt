@@ -1,5 +1,5 @@
 -- Typed key sessions, and the sessions of one client for which they stand.
-use Rattle.std.specs.Prelude.{◌≡◌, ℕ, ◌^◌, ◌<◌, Bool, true, List, Option, Some, option_map}
+use Rattle.std.specs.Prelude.{◌≡◌, ℕ, Bool, true, List, Option, Some, None}
 use Rattle.vpn_base.specs.declared.names.Cipher.{Cipher}
 use Rattle.vpn_base.specs.declared.names.Policy.{Policy}
 use Rattle.vpn_base.specs.declared.names.Sid.{Sid}
@@ -50,3 +50,10 @@ restaged stage s = record s { stage = stage }
 abbrev pub keys_made : Source → Source → Sid → Sid → Cipher → ℕ → Keys
 keys_made client server client_sid server_sid cipher peer_id =
     record { block = block_of client server client_sid.0 server_sid.0; cipher = cipher; peer_id = peer_id }
+
+-- the block and the cipher of the keys of a session that is open and has keys
+abbrev pub keys_if : Bool → Stage → Option (List ℕ × Cipher)
+keys_if true (sessions.Keyed keys) = Some (keys.block, keys.cipher)
+keys_if is_open stage = None
+abbrev pub keys_shown : Session → Option (List ℕ × Cipher)
+keys_shown s = keys_if s.is_open s.stage

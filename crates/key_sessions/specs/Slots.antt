@@ -1,6 +1,6 @@
 -- The slots of one client's key sessions, and the lists of all its key sessions for which they stand.
 use Rattle.std.specs.Prelude.{◌≡◌, ◌≢◌, ℕ, ◌-◌, Bool, true, false, List, [], ◌∷◌, ◌++◌, length, Option, Some, None, slice_get, vec_len, vec_capacity}
-use Rattle.peer_table.specs.KeySessions.{Session}
+use Rattle.peer_table.specs.KeySessions.{Session, newest_usable}
 use Rattle.peer_table.specs.KeySessions as sessions
 use Rattle.peer_table.specs.Orderly.{IsOrderly}
 use Rattle.key_sessions.specs.declared.slot.Slot.{Slot}
@@ -15,7 +15,7 @@ use Rattle.key_sessions.specs.Sessions.{IsKeyed}
 
 -- whether a slot's session is open
 abbrev pub is_open_stage : SlotStage → Bool
-is_open_stage Closed = false
+is_open_stage (Closed cipher) = false
 is_open_stage stage = true
 
 -- whether it is open and has keys
@@ -23,12 +23,12 @@ abbrev pub is_keyed_stage : SlotStage → Bool
 is_keyed_stage (Keyed k) = true
 is_keyed_stage stage = false
 
--- the stage of a slot is that of a session; of one that is closed no more is kept than that it had keys
+-- the stage of a slot is that of a session; of one that is closed no more is kept than the cipher of its keys
 abbrev pub IsStage : SlotStage → sessions.Stage → Type 0
 IsStage (Opening k) sessions.Opening = Unit {0}
 IsStage (Named k) sessions.Named = Unit {0}
 IsStage (Keyed k) stage = IsKeyed k stage
-IsStage Closed (sessions.Keyed keys) = Unit {0}
+IsStage (Closed cipher) (sessions.Keyed keys) = cipher ≡ keys.cipher
 IsStage _ _ = ⊥
 
 -- a text that is there stands for the session
@@ -57,10 +57,15 @@ EachStands stands_for (slot ∷ slots) [] = ⊥
 abbrev pub all_slots : {T : Type 0} → Slots T → List (Slot T)
 all_slots slots = slots.earlier.items ++ slots.newest ∷ []
 
--- each slot stands for its session, and the sessions are orderly
+-- the last session with keys is open
+abbrev pub LastIsOpen : List Session → Type 0
+LastIsOpen ss = (n : ℕ) (s : Session) → newest_usable ss ≡ Some n → slice_get ss n ≡ Some s → s.is_open ≡ true
+
+-- each slot stands for its session, the sessions are orderly, and the one that seals is open
 pub record AreSlotsOf {T : Type 0} (stands_for : T → Session → Type 0) (slots : Slots T) (ss : List Session) : Type 0 where
   pub each : EachStands stands_for (all_slots slots) ss
   pub orderly : IsOrderly ss
+  pub sealing : LastIsOpen ss
 
 -- the same as one word, which callers do not look into
 unfoldable pub SlotsStand : {T : Type 0} → (T → Session → Type 0) → Slots T → List Session → Type 0
@@ -73,7 +78,7 @@ abbrev pub stage_seen : SlotStage → Stage
 stage_seen (Opening k) = stages.Opening
 stage_seen (Named k) = stages.Named
 stage_seen (Keyed k) = stages.Keyed
-stage_seen Closed = stages.Keyed
+stage_seen (Closed cipher) = stages.Keyed
 unfoldable pub newest_stage : {T : Type 0} → Slots T → Stage
 newest_stage slots = stage_seen slots.newest.stage
 

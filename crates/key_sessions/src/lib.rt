@@ -3,6 +3,7 @@
 
 mod looks;
 mod name;
+mod places;
 mod session;
 mod slot;
 mod slots;

@@ -5,12 +5,12 @@ ghost use Rattle.std.specs.Option.{option_copied};
 ghost use Rattle.vpn_base.specs.declared.names.Cipher.{Cipher};
 ghost use Rattle.vpn_base.specs.declared.errors.Or.TheVariants.{Memory, Why};
 ghost use Rattle.peer_table.specs.EngineAnswers.{kept_name};
-ghost use Rattle.peer_table.specs.Exchange.{block_of, chosen, ciphers_of};
+ghost use Rattle.peer_table.specs.Exchange.{block_of, chosen, cipher_in};
 ghost use Rattle.peer_table.specs.KeySessions.{Session, Stage, kid_of};
 ghost use Rattle.peer_table.specs.KeySessions as sessions;
 ghost use Rattle.key_sessions.specs.declared.name.NameFault.{NameFault};
 ghost use Rattle.key_sessions.specs.Names.{name_bytes, name_fault};
-ghost use Rattle.key_sessions.specs.Sessions.{BeginsAt, KeyedStands, NamedStands, OpeningStands, keys_made, restaged};
+ghost use Rattle.key_sessions.specs.Sessions.{BeginsAt, KeyedStands, NamedStands, OpeningStands, keys_made, keys_shown, restaged};
 
 use crate::name::{Name, NameFault, judge_name};
 use crate::text::SessionText;
@@ -34,6 +34,22 @@ pub struct Keyed {
     name: Name,
     keys: KeyBlock,
     cipher: Cipher,
+}
+
+impl Keyed {
+    // The block of all keys.
+    pub(crate) fn keys(&self) -> &KeyBlock
+        ensures { result.now ≡ self.now.keys }
+    {
+        &self.keys
+    }
+
+    // The cipher that they are for.
+    pub(crate) fn cipher(&self) -> Cipher
+        ensures { result ≡ self.now.cipher }
+    {
+        self.cipher
+    }
 }
 
 /// The other end offers none of our ciphers.
@@ -188,5 +204,46 @@ impl<T: SessionText> KeySession<T, Named> {
                 cipher,
             },
         })
+    }
+}
+
+impl<T: SessionText> KeySession<T, Keyed> {
+    /// The block of all keys.
+    #[tactic(auto, unfolding(crate::specs::Sessions::KeyedStands))]
+    pub fn keys(&self) -> &KeyBlock
+        ensures { (s : Session) → KeyedStands T.stands_for self.now s → keys_shown s ≡ Some (result.now.0, self.now.stage.cipher) }
+    {
+        self.stage.keys()
+    }
+
+    /// The cipher that they are for.
+    #[tactic(auto, unfolding(crate::specs::Sessions::KeyedStands))]
+    pub fn cipher(&self) -> Cipher
+        ensures { (s : Session) → KeyedStands T.stands_for self.now s → cipher_in (Some s) ≡ Some result }
+    {
+        self.stage.cipher()
+    }
+}
+
+impl<T, S> KeySession<T, S> {
+    /// Its number, from 0.
+    pub fn number(&self) -> u64
+        ensures { result ≡ self.now.number }
+    {
+        self.number
+    }
+
+    /// Its key id.
+    pub fn kid(&self) -> u8
+        ensures { result ≡ kid_of self.now.number }
+    {
+        kid_of(self.number)
+    }
+
+    /// When it began.
+    pub fn began(&self) -> Moment
+        ensures { result ≡ self.now.began }
+    {
+        self.began
     }
 }

@@ -1,16 +1,17 @@
 //! What is kept of one key session beside the others of its client.
 
-ghost use Rattle.std.specs.Prelude.{◌≡◌, ℕ, IfSome, is_some};
+ghost use Rattle.std.specs.Prelude.{◌≡◌, Some};
 ghost use Rattle.peer_table.specs.KeySessions.{Session};
+ghost use Rattle.peer_table.specs.Exchange.{cipher_in};
 ghost use Rattle.peer_table.specs.KeySessions as sessions;
 ghost use Rattle.key_sessions.specs.Sessions.{OpeningStands};
-ghost use Rattle.key_sessions.specs.Slots.{HasText, SlotStands, is_keyed_stage, is_open_stage, stage_seen};
-ghost use Rattle.key_sessions.specs.internal.Numbers.{had_keys};
+ghost use Rattle.key_sessions.specs.Slots.{HasText, IsStage, SlotStands, is_keyed_stage, is_open_stage, stage_seen};
+ghost use Rattle.key_sessions.specs.internal.Numbers.{had_keys, picks};
 ghost use Rattle.key_sessions.specs.declared.slot.SlotStage.TheVariants as kept;
 
 use crate::session::{KeySession, Keyed, Named, Opening};
 use crate::text::{SessionText, conn_of};
-use vpn_base::{Conn, Moment};
+use vpn_base::{Cipher, Conn, Moment};
 
 /// How far the negotiation of a key session has come.
 #[derive(Clone, Copy, Debug, PartialEq, Eq)]
@@ -51,13 +52,13 @@ pub struct SessionSeen {
     pub is_open: bool,
 }
 
-/// The stage of a session in its slot. Of one that is closed nothing is kept: it had keys.
+/// The stage of a session in its slot. Of the keys of one that is closed only the cipher is kept.
 #[derive(Drop)]
 pub(crate) enum SlotStage {
     Opening(Opening),
     Named(Named),
     Keyed(Keyed),
-    Closed,
+    Closed(Cipher),
 }
 
 /// What is kept of one session. Its text is there while it is open, or is out for a while.
@@ -69,6 +70,30 @@ pub(crate) struct Slot<T> {
     pub(crate) stage: SlotStage,
 }
 
+// Which sessions are looked for.
+#[derive(Clone, Copy)]
+pub(crate) enum Which {
+    // The open ones.
+    Open,
+    // Of these the ones with keys.
+    OpenKeyed,
+    // The open one on this engine connection.
+    On(Conn),
+}
+
+impl Which {
+    // Whether a slot is looked for.
+    pub(crate) fn picks<T>(self, slot: &Slot<T>) -> bool
+        ensures { result ≡ picks self slot.now }
+    {
+        match self {
+            Which::Open => slot.stage.is_open(),
+            Which::OpenKeyed => slot.stage.is_keyed(),
+            Which::On(conn) => slot.stage.is_open() && slot.conn.0 == conn.0,
+        }
+    }
+}
+
 impl SlotStage {
     // Whether the session is open.
     pub(crate) fn is_open(&self) -> bool
@@ -78,7 +103,7 @@ impl SlotStage {
             SlotStage::Opening(_) => true,
             SlotStage::Named(_) => true,
             SlotStage::Keyed(_) => true,
-            SlotStage::Closed => false,
+            SlotStage::Closed(_) => false,
         }
     }
 
@@ -90,7 +115,7 @@ impl SlotStage {
             SlotStage::Opening(_) => false,
             SlotStage::Named(_) => false,
             SlotStage::Keyed(_) => true,
-            SlotStage::Closed => false,
+            SlotStage::Closed(_) => false,
         }
     }
 
@@ -102,7 +127,19 @@ impl SlotStage {
             SlotStage::Opening(_) => false,
             SlotStage::Named(_) => false,
             SlotStage::Keyed(_) => true,
-            SlotStage::Closed => true,
+            SlotStage::Closed(_) => true,
+        }
+    }
+
+    // The cipher of the keys that it has, or had.
+    pub(crate) fn cipher(&self) -> Option<Cipher>
+        ensures { (s : Session) → IsStage self.now s.stage → result ≡ cipher_in (Some s) }
+    {
+        match self {
+            SlotStage::Opening(_) => None,
+            SlotStage::Named(_) => None,
+            SlotStage::Keyed(keyed) => Some(keyed.cipher()),
+            SlotStage::Closed(cipher) => Some(*cipher),
         }
     }
 
@@ -114,7 +151,7 @@ impl SlotStage {
             SlotStage::Opening(_) => Stage::Opening,
             SlotStage::Named(_) => Stage::Named,
             SlotStage::Keyed(_) => Stage::Keyed,
-            SlotStage::Closed => Stage::Keyed,
+            SlotStage::Closed(_) => Stage::Keyed,
         }
     }
 }
