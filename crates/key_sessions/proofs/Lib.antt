@@ -3,3 +3,4 @@ mod Each
 mod Fronts
 mod Usable
 mod Walks
+mod Listed

@@ -1,20 +1,22 @@
 -- Which sessions are usable, told by the slots.
 use Rattle.std.proofs.Common.{◌≡◌, ℕ, zero, suc, ◌+◌, ◌<◌, ◌≤◌, Bool, true, false, List, [], ◌∷◌, ◌++◌, length, take, Option, Some, None, refl, ap, sym, subst, ◌∙◌, arith, rules}
-use Rattle.std.specs.Prelude.{not, option_map, slice_get}
+use Rattle.std.specs.Prelude.{not, option_map, slice_get, ◌==◌, if◌then◌else◌}
 use Rattle.vpn_base.specs.declared.names.Moment.{Moment}
 use Rattle.vpn_base.specs.declared.names.Timers.{Timers}
 use Rattle.std.proofs.lemmas.List.{length-append}
 use Rattle.std.proofs.lemmas.Option.{none-some}
-use Rattle.peer_table.specs.KeySessions.{Session, Keyed, Named, Opening, began_before, has_keys, has_passed, in_transition, session_at, is_keyed, keyed_before, newest, newest_session, newest_usable, retiring}
+use Rattle.peer_table.specs.KeySessions.{Session, Keyed, Named, Opening, began_before, has_keys, has_passed, in_transition, kid_of, live_with, session_at, usable, usable_of, usable_with, with_kid, is_keyed, keyed_before, newest, newest_session, newest_usable, retiring}
 use Rattle.key_sessions.specs.declared.slot.Stage.{Stage}
 use Rattle.key_sessions.specs.declared.slot.Newest.{Newest}
 use Rattle.peer_table.specs.KeySessions as sessions
 use Rattle.peer_table.specs.Places.{last_place}
+use Rattle.peer_table.specs.Peer.{Peer}
+use Rattle.peer_table.specs.Exchange.{cipher_in, cipher_of}
 use Rattle.key_sessions.specs.declared.slot.Slot.{Slot}
 use Rattle.key_sessions.specs.declared.slots.Slots.{Slots}
 use Rattle.key_sessions.specs.declared.slot.SlotStage.{SlotStage}
 use Rattle.key_sessions.specs.declared.slot.SlotStage.TheVariants as kept
-use Rattle.key_sessions.specs.Slots.{AreSlotsOf, EachStands, IsStage, SlotStands, SlotsStand, all_slots, stage_seen}
+use Rattle.key_sessions.specs.Slots.{AreSlotsOf, LastIsOpen, EachStands, IsStage, SlotStands, SlotsStand, all_slots, stage_seen}
 use Rattle.key_sessions.specs.Looks.{began_of, newest_as, newest_seen, stage_of}
 use Rattle.key_sessions.specs.internal.Numbers.{had_keys, number_before, number_before_that, number_if}
 use Rattle.key_sessions.proofs.Each.{BothAt, at_end, both_at, same_length}
@@ -170,3 +172,36 @@ pub transition_without : (timers : Timers) (now last : ℕ) (ss : List Session) 
 unfolding in_transition
 transition_without timers now last ss is began =
     ap (λ (o : Option ℕ). not (began_before timers.tran now (session_at ss o))) is ∙ ap not (not_began timers.tran now (slice_get ss last) began)
+
+-- ---- by key id
+
+-- the usable sessions with a key id, from what is told of the last ones
+pub usable_with_is : (timers : Timers) (now : ℕ) (ss : List Session) (kid : ℕ) (last older : Option ℕ) (still : Bool) →
+    last ≡ newest_usable ss → older ≡ retiring ss → still ≡ in_transition timers now ss →
+    with_kid kid (usable_of last older still) ≡ usable_with timers now ss kid
+unfolding usable_with usable
+usable_with_is timers now ss kid last older still is_last is_older is_still = rw is_last (rw is_older (rw is_still refl))
+
+-- the live one is the newest, or a usable one
+pub live_with_is : {T : Type 0} (stands_for : T → Session → Type 0) (slots : Slots T) (timers : Timers) (now : ℕ) (ss : List Session) (kid : ℕ) (found : Option ℕ) →
+    SlotsStand stands_for slots ss → found ≡ usable_with timers now ss kid →
+    (if kid_of (length slots.earlier.items) == kid then Some (length slots.earlier.items) else found) ≡ live_with timers now ss kid
+unfolding live_with usable_with
+live_with_is stands_for slots timers now ss kid found are is =
+    ap (λ (o : Option ℕ). if kid_of (length slots.earlier.items) == kid then Some (length slots.earlier.items) else o) is ∙
+    ap (λ (n : ℕ). if kid_of n == kid then Some n else with_kid kid (usable timers now ss)) (sym (newest_is stands_for slots ss are))
+
+-- ---- the sealing session
+
+-- the last session with keys is open
+pub last_is_open : {T : Type 0} (stands_for : T → Session → Type 0) (slots : Slots T) (ss : List Session) → SlotsStand stands_for slots ss → LastIsOpen ss
+unfolding SlotsStand
+last_is_open stands_for slots ss are = are.sealing
+
+-- the cipher of the newest keys
+pub cipher_of_is : (p : Peer) (n : ℕ) → newest_usable p.sessions ≡ Some n → cipher_in (slice_get p.sessions n) ≡ cipher_of p
+unfolding cipher_of
+cipher_of_is p n is = sym (ap (λ (o : Option ℕ). cipher_in (session_at p.sessions o)) is)
+pub cipher_before : (p : Peer) → newest_usable p.sessions ≡ None → cipher_of p ≡ None
+unfolding cipher_of
+cipher_before p is = ap (λ (o : Option ℕ). cipher_in (session_at p.sessions o)) is

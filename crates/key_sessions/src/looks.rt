@@ -1,24 +1,30 @@
 //! What the slots tell of their sessions.
 
-ghost use Rattle.std.specs.Prelude.{◌≡◌, ℕ, List, Some, None, option_map, slice_get};
+ghost use Rattle.std.specs.Prelude.{◌≡◌, ◌≤◌, ◌==◌, List, Some, None, option_map, slice_get, if◌then◌else◌};
 ghost use Rattle.std.specs.Option.{option_copied};
 ghost use Rattle.vpn_base.specs.declared.names.Timers.{Timers};
-ghost use Rattle.peer_table.specs.KeySessions.{Session, has_passed, in_transition, live_with, newest_usable, retiring, usable_with};
-ghost use Rattle.key_sessions.specs.Looks.{began_of, newest_seen, seen_as, seen_at};
-ghost use Rattle.key_sessions.specs.Slots.{SlotStands, SlotsStand, newest_number, newest_stage};
+ghost use Rattle.peer_table.specs.EngineAnswers.{open_with};
+ghost use Rattle.peer_table.specs.Exchange.{cipher_in, cipher_of};
+ghost use Rattle.peer_table.specs.KeySessions.{Session, has_passed, in_transition, kid_of, live_with, newest_usable, open_numbers, retiring, session_at, usable_of, usable_with, with_kid};
+ghost use Rattle.peer_table.specs.Peer.{Peer};
+ghost use Rattle.key_sessions.specs.Looks.{began_of, keyed_with, keys_of_some, listed, listed_at, newest_seen, seen_as, seen_at};
+ghost use Rattle.key_sessions.specs.Slots.{LastIsOpen, SlotStands, SlotsStand, newest_number, newest_stage};
 ghost use Rattle.key_sessions.specs.internal.Numbers.{number_before_that};
 
 use crate::session::kid_of;
-use crate::slot::{Newest, SessionSeen, Slot};
+use crate::slot::{Newest, SessionSeen, Slot, Which};
 use crate::slots::{Slots, number_before};
 use crate::text::SessionText;
-use vpn_base::Moment;
+use hmac_kit::KeyBlock;
+use peer_table::at_most_three_are_open;
+use vpn_base::{Cipher, Conn, Moment};
 
 impl<T: SessionText> Slots<T> {
     /// The last session that has keys; None exactly before the first key exchange.
-    #[tactic(auto, using(crate::proofs::Usable::newest_usable_is))]
+    #[tactic(auto, using(crate::proofs::Usable::newest_usable_is, crate::proofs::Usable::last_is_open))]
     pub fn newest_usable(&self) -> Option<u64>
-        ensures { (ss : List Session) → SlotsStand T.stands_for self.now ss → result ≡ newest_usable ss }
+        ensures number { (ss : List Session) → SlotsStand T.stands_for self.now ss → result ≡ newest_usable ss }
+        ensures is_open { (ss : List Session) → SlotsStand T.stands_for self.now ss → LastIsOpen ss }
     {
         self.last_keyed()
     }
@@ -56,6 +62,114 @@ impl<T: SessionText> Slots<T> {
             stage: self.newest.stage.seen(),
             number: self.newest_number(),
             began: self.newest.began,
+        }
+    }
+
+    /// The session with this key id that may be used at this moment, where the one before the last with keys
+    /// may be until so many seconds after the last one began. None exactly where there is none.
+    #[tactic(auto, using(crate::proofs::Usable::usable_with_is))]
+    pub fn usable(&self, kid: u8, now: Moment, tran: u32) -> Option<u64>
+        ensures { (timers : Timers) (ss : List Session) → SlotsStand T.stands_for self.now ss → timers.tran ≡ tran →
+            result ≡ usable_with timers now.0 ss kid }
+    {
+        with_kid(
+            kid,
+            self.newest_usable(),
+            self.retiring(),
+            self.in_transition(now, tran),
+        )
+    }
+
+    /// The live session with this key id, the newest one or a usable one; None exactly where there is none.
+    #[tactic(auto, using(crate::proofs::Usable::live_with_is))]
+    pub fn live(&self, kid: u8, now: Moment, tran: u32) -> Option<u64>
+        ensures { (timers : Timers) (ss : List Session) → SlotsStand T.stands_for self.now ss → timers.tran ≡ tran →
+            result ≡ live_with timers now.0 ss kid }
+    {
+        newest_or(kid, self.newest_number(), self.usable(kid, now, tran))
+    }
+
+    /// The i-th open session in order of number, counted from 0: its number, key id and connection. None
+    /// exactly past the end; at most three are open.
+    #[tactic(auto, using(crate::proofs::Listed::listed_is, crate::proofs::Listed::few_listed))]
+    pub fn open_at(&self, i: usize) -> Option<(u64, u8, Conn)>
+        ensures listed { (ss : List Session) → SlotsStand T.stands_for self.now ss → result ≡ listed ss i }
+        ensures few { (ss : List Session) → SlotsStand T.stands_for self.now ss → 3 ≤ i → result ≡ None }
+    {
+        at_most_three_are_open();
+        match self.nth(Which::Open, i) {
+            None => None,
+            Some(number) => self.listed(number),
+        }
+    }
+
+    // The session of a number as it is listed.
+    fn listed(&self, number: u64) -> Option<(u64, u8, Conn)>
+        ensures { (ss : List Session) → SlotsStand T.stands_for self.now ss → result ≡ listed_at ss (Some number) }
+    {
+        match self.slot(number) {
+            None => None,
+            Some(slot) => Some((number, kid_of(number), slot.conn)),
+        }
+    }
+
+    /// The open session on this engine connection, if there is one.
+    #[tactic(auto, using(crate::proofs::Listed::open_with_is))]
+    pub fn open_with(&self, conn: Conn) -> Option<u64>
+        ensures { (p : Peer) → SlotsStand T.stands_for self.now p.sessions → result ≡ open_with conn p }
+    {
+        self.nth(Which::On(conn), 0)
+    }
+
+    /// The open session with this key id, if there is one.
+    #[tactic(auto, using(crate::proofs::Listed::open_kid_is))]
+    pub fn open_with_kid(&self, kid: u8) -> Option<u64>
+        ensures { (ss : List Session) → SlotsStand T.stands_for self.now ss → result ≡ with_kid kid (open_numbers ss) }
+    {
+        self.first_with_kid(Which::Open, kid)
+    }
+
+    /// The keys of the open session with this key id; None exactly where no open session with keys has it.
+    #[tactic(auto, using(crate::proofs::Listed::keyed_kid_is))]
+    pub fn keys(&self, kid: u8) -> Option<(&KeyBlock, Cipher)>
+        ensures { (ss : List Session) → SlotsStand T.stands_for self.now ss →
+            option_map (λ r. (r.0.now.0, r.1)) result ≡ keys_of_some (session_at ss (keyed_with ss kid)) }
+    {
+        match self.first_with_kid(Which::OpenKeyed, kid) {
+            None => None,
+            Some(number) => self.keys_at(number),
+        }
+    }
+
+    /// The keys of the session of this number; None exactly where it is not open or has no keys.
+    pub fn keys_at(&self, number: u64) -> Option<(&KeyBlock, Cipher)>
+        ensures { (ss : List Session) → SlotsStand T.stands_for self.now ss →
+            option_map (λ r. (r.0.now.0, r.1)) result ≡ keys_of_some (slice_get ss number) }
+    {
+        match self.slot(number) {
+            None => None,
+            Some(slot) => slot.stage.keys(),
+        }
+    }
+
+    /// The cipher of the newest keys; None exactly before the first key exchange.
+    #[tactic(auto, using(crate::proofs::Usable::cipher_of_is, crate::proofs::Usable::cipher_before))]
+    pub fn cipher(&self) -> Option<Cipher>
+        ensures { (p : Peer) → SlotsStand T.stands_for self.now p.sessions → result ≡ cipher_of p }
+    {
+        match self.newest_usable() {
+            None => None,
+            Some(number) => self.cipher_at(number),
+        }
+    }
+
+    // The cipher of the keys of a session, if it has or had keys.
+    fn cipher_at(&self, number: u64) -> Option<Cipher>
+        ensures { (ss : List Session) → SlotsStand T.stands_for self.now ss → result ≡ cipher_in (slice_get ss number) }
+    {
+        match self.slot(number) {
+            None => None,
+            Some(slot) => slot.stage.cipher(),
         }
     }
 
@@ -107,5 +221,32 @@ fn see<T: SessionText>(number: u64, slot: &Slot<T>) -> SessionSeen
         began: slot.began,
         stage: slot.stage.seen(),
         is_open: slot.stage.is_open(),
+    }
+}
+
+// The newest session where it has this key id, else a usable one that may have it.
+fn newest_or(kid: u8, newest: u64, usable: Option<u64>) -> Option<u64>
+    ensures { result ≡ (if kid_of newest == kid then Some newest else usable) }
+{
+    if kid_of(newest) == kid {
+        Some(newest)
+    } else {
+        usable
+    }
+}
+
+// Of the last session with keys, and the one before it where it may still be used, the first with this key id.
+fn with_kid(kid: u8, last: Option<u64>, older: Option<u64>, still: bool) -> Option<u64>
+    ensures { result ≡ with_kid kid (usable_of last older still) }
+{
+    let Some(last) = last else {
+        return None;
+    };
+    if kid_of(last) == kid {
+        return Some(last);
+    }
+    match older {
+        Some(older) if still && kid_of(older) == kid => Some(older),
+        _ => None,
     }
 }

@@ -1,14 +1,15 @@
 //! What is kept of one key session beside the others of its client.
 
-ghost use Rattle.std.specs.Prelude.{◌≡◌, Some};
+ghost use Rattle.std.specs.Prelude.{◌≡◌, Some, option_map};
 ghost use Rattle.peer_table.specs.KeySessions.{Session};
 ghost use Rattle.peer_table.specs.Exchange.{cipher_in};
 ghost use Rattle.peer_table.specs.KeySessions as sessions;
-ghost use Rattle.key_sessions.specs.Sessions.{OpeningStands};
+ghost use Rattle.key_sessions.specs.Sessions.{OpeningStands, keys_shown};
 ghost use Rattle.key_sessions.specs.Slots.{HasText, IsStage, SlotStands, is_keyed_stage, is_open_stage, stage_seen};
 ghost use Rattle.key_sessions.specs.internal.Numbers.{had_keys, picks};
 ghost use Rattle.key_sessions.specs.declared.slot.SlotStage.TheVariants as kept;
 
+use hmac_kit::KeyBlock;
 use crate::session::{KeySession, Keyed, Named, Opening};
 use crate::text::{SessionText, conn_of};
 use vpn_base::{Cipher, Conn, Moment};
@@ -140,6 +141,19 @@ impl SlotStage {
             SlotStage::Named(_) => None,
             SlotStage::Keyed(keyed) => Some(keyed.cipher()),
             SlotStage::Closed(cipher) => Some(*cipher),
+        }
+    }
+
+    // The keys of one that is open and has keys.
+    pub(crate) fn keys(&self) -> Option<(&KeyBlock, Cipher)>
+        ensures { (s : Session) → IsStage self.now s.stage → is_open_stage self.now ≡ s.is_open →
+            option_map (λ r. (r.0.now.0, r.1)) result ≡ keys_shown s }
+    {
+        match self {
+            SlotStage::Opening(_) => None,
+            SlotStage::Named(_) => None,
+            SlotStage::Keyed(keyed) => Some((keyed.keys(), keyed.cipher())),
+            SlotStage::Closed(_) => None,
         }
     }
 
