@@ -1,6 +1,6 @@
 -- Slots and the sessions for which they stand, place by place.
 use Rattle.std.proofs.Common.{◌≡◌, ℕ, zero, suc, ◌+◌, ◌<◌, Bool, true, false, List, [], ◌∷◌, ◌++◌, length, Option, Some, None, refl, ap, arith, rules}
-use Rattle.std.specs.Prelude.{slice_get}
+use Rattle.std.specs.Prelude.{slice_get, slice_index_or}
 use Rattle.peer_table.specs.KeySessions.{Session}
 use Rattle.key_sessions.specs.declared.slot.Slot.{Slot}
 use Rattle.key_sessions.specs.Slots.{EachStands, SlotStands}
@@ -46,3 +46,9 @@ past_end [] x zero past = absurd (omega (arith, past))
 past_end [] x (suc n) past = refl
 past_end (y ∷ xs) x zero past = absurd (omega (arith, past))
 past_end (y ∷ xs) x (suc n) past = past_end xs x n (omega (arith, past))
+
+-- an item by its index
+pub got : {X : Type 0} (xs : List X) (n : ℕ) (d : X) → n < length xs → slice_get xs n ≡ Some (slice_index_or xs n d)
+got [] n d below = absurd (omega (arith, below))
+got (x ∷ xs) zero d below = refl
+got (x ∷ xs) (suc n) d below = got xs n d (omega (arith, below))

@@ -4,3 +4,5 @@ mod Fronts
 mod Usable
 mod Walks
 mod Listed
+mod Sets
+mod Orders

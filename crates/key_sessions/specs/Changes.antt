@@ -24,7 +24,6 @@ one_too_many ss = oldest_of (places_from is_open_keyed 0 ss)
 
 -- a change of a session that leaves alone what the slots keep of it
 pub record KeepsPlace (change : Session → Session) (s : Session) : Type 0 where
-  pub conn : (change s).link.conn ≡ s.link.conn
   pub began : (change s).began ≡ s.began
   pub is_open : (change s).is_open ≡ s.is_open
   pub stage : (change s).stage ≡ s.stage

@@ -7,11 +7,13 @@ ghost use Rattle.peer_table.specs.KeySessions as sessions;
 ghost use Rattle.key_sessions.specs.Sessions.{OpeningStands, keys_shown};
 ghost use Rattle.key_sessions.specs.Slots.{HasText, IsStage, SlotStands, is_keyed_stage, is_open_stage, stage_seen};
 ghost use Rattle.key_sessions.specs.internal.Numbers.{had_keys, picks};
+ghost use Rattle.key_sessions.specs.internal.Steps.{applied, closed_slot, closed_text, given};
 ghost use Rattle.key_sessions.specs.declared.slot.SlotStage.TheVariants as kept;
 
 use hmac_kit::KeyBlock;
 use crate::session::{KeySession, Keyed, Named, Opening};
 use crate::text::{SessionText, conn_of};
+use std::mem;
 use vpn_base::{Cipher, Conn, Moment};
 
 /// How far the negotiation of a key session has come.
@@ -69,6 +71,49 @@ pub(crate) struct Slot<T> {
     pub(crate) conn: Conn,
     pub(crate) began: Moment,
     pub(crate) stage: SlotStage,
+}
+
+// A change of one slot.
+#[derive(Drop)]
+pub(crate) enum Change<T> {
+    // Its text is taken out.
+    Take,
+    // A text is put there, on this engine connection.
+    Put(T, Conn),
+    // Its session is closed.
+    Close,
+}
+
+impl<T> Slot<T> {
+    // Makes a change, and gives the text that was there.
+    pub(crate) fn change(&mut self, change: Change<T>) -> Option<T>
+        ensures text { result ≡ given change self.old }
+        ensures slot { self.new ≡ applied change self.old }
+    {
+        match change {
+            Change::Take => mem::replace(&mut self.text, None),
+            Change::Put(text, conn) => {
+                self.conn = conn;
+                mem::replace(&mut self.text, Some(text))
+            }
+            Change::Close => self.close(),
+        }
+    }
+
+    // Closes the session where it has keys, and gives its text.
+    fn close(&mut self) -> Option<T>
+        ensures text { result ≡ closed_text self.old self.old.stage }
+        ensures slot { self.new ≡ closed_slot self.old self.old.stage }
+    {
+        match &self.stage {
+            SlotStage::Keyed(keyed) => {
+                let cipher = keyed.cipher();
+                self.stage = SlotStage::Closed(cipher);
+                mem::replace(&mut self.text, None)
+            }
+            _ => None,
+        }
+    }
 }
 
 // Which sessions are looked for.

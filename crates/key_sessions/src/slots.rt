@@ -1,15 +1,17 @@
 //! The key sessions of one client, in slots.
 
-ghost use Rattle.std.specs.Prelude.{◌≡◌, ℕ, [], ◌∷◌, List, length, slice_get};
+ghost use Rattle.std.specs.Prelude.{◌≡◌, [], ◌∷◌, List, length, slice_get, slice_set, Some, None};
 ghost use Rattle.std.specs.Option.{option_copied};
 ghost use Rattle.peer_table.specs.KeySessions.{Session};
 ghost use Rattle.key_sessions.specs.Sessions.{OpeningStands};
 ghost use Rattle.key_sessions.specs.Slots.{IsWhole, all_slots, SlotsStand, newest_number, newest_stage, room};
 ghost use Rattle.key_sessions.specs.internal.Numbers.{had_keys, number_before, number_if};
+ghost use Rattle.key_sessions.specs.internal.Steps.{applied, given_at};
+ghost use Rattle.key_sessions.specs.declared.slot.Slot.{Slot};
 ghost use Rattle.key_sessions.specs.declared.slot.Stage.TheVariants as stages;
 
 use crate::session::{KeySession, Opening};
-use crate::slot::{Slot, slot_of};
+use crate::slot::{Change, Slot, slot_of};
 use crate::text::SessionText;
 use std::alloc::Global;
 
@@ -72,6 +74,29 @@ impl<T> Slots<T> {
             Some(newest)
         } else {
             number_before(newest)
+        }
+    }
+}
+
+impl<T: Drop> Slots<T> {
+    // Makes a change in the slot of a number, if there is one, and gives the text that was there.
+    #[tactic(auto, using(crate::proofs::Sets::set_end, crate::proofs::Each::at_end, crate::proofs::Each::before_end, crate::proofs::Each::past_end, crate::proofs::Sets::same_seen), unfolding(crate::specs::Slots::room, crate::specs::Slots::newest_stage))]
+    pub(crate) fn change(&mut self, number: u64, change: Change<T>) -> Option<T>
+        ensures text { result ≡ given_at change (slice_get (all_slots self.old) number) }
+        ensures slot { (slot : Slot T) → slice_get (all_slots self.old) number ≡ Some slot →
+            all_slots self.new ≡ slice_set (all_slots self.old) number (applied change slot) }
+        ensures none { slice_get (all_slots self.old) number ≡ None → self.new ≡ self.old }
+        ensures count { length self.new.earlier.items ≡ length self.old.earlier.items }
+        ensures stage { newest_stage self.new ≡ newest_stage self.old }
+        ensures room { room self.new ≡ room self.old }
+    {
+        let newest = self.newest_number();
+        if number < newest {
+            self.earlier[number as usize].change(change)
+        } else if number == newest {
+            self.newest.change(change)
+        } else {
+            None
         }
     }
 }

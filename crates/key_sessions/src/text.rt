@@ -8,7 +8,7 @@ use vpn_links::ControlText;
 
 /// All that a key session carries beside its number, its beginning and its stage: its control text, the
 /// plain text of the other end, and what its keys were used for.
-pub trait SessionText: ControlText {
+pub trait SessionText: ControlText + Drop {
     /// The key sessions for which it stands.
     ghost stands_for: { Self → Session → Type 0 };
 
