@@ -6,3 +6,4 @@ mod Walks
 mod Listed
 mod Sets
 mod Orders
+mod Steps

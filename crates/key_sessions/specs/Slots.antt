@@ -1,5 +1,5 @@
 -- The slots of one client's key sessions, and the lists of all its key sessions for which they stand.
-use Rattle.std.specs.Prelude.{◌≡◌, ◌≢◌, ℕ, ◌-◌, Bool, true, false, List, [], ◌∷◌, ◌++◌, length, Option, Some, None, slice_get, vec_len, vec_capacity}
+use Rattle.std.specs.Prelude.{◌≡◌, ◌≢◌, ℕ, ◌-◌, Bool, true, false, List, [], ◌∷◌, ◌++◌, length, Option, Some, None, slice_get, is_some, vec_len, vec_capacity}
 use Rattle.peer_table.specs.KeySessions.{Session, newest_usable}
 use Rattle.peer_table.specs.KeySessions as sessions
 use Rattle.peer_table.specs.Orderly.{IsOrderly}
@@ -90,10 +90,9 @@ newest_number slots = length slots.earlier.items
 unfoldable pub room : {T : Type 0} → Slots T → ℕ
 room slots = vec_capacity slots.earlier - vec_len slots.earlier
 
--- the text of an open session is there, or none is owed
+-- a text is there exactly where the session is open
 abbrev pub HasText : {T : Type 0} → Bool → Option T → Type 0
-HasText true None = ⊥
-HasText is_open text = Unit {0}
+HasText is_open text = is_some text ≡ is_open
 
 -- so it is in a slot, if there is one
 abbrev pub HasTextAt : {T : Type 0} → Option (Slot T) → Type 0

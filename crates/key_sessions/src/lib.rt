@@ -1,6 +1,7 @@
 //! The key sessions of one client.
 #![tactic(auto)]
 
+mod changes;
 mod looks;
 mod name;
 mod places;

@@ -7,7 +7,7 @@ ghost use Rattle.peer_table.specs.KeySessions as sessions;
 ghost use Rattle.key_sessions.specs.Sessions.{OpeningStands, keys_shown};
 ghost use Rattle.key_sessions.specs.Slots.{HasText, IsStage, SlotStands, is_keyed_stage, is_open_stage, stage_seen};
 ghost use Rattle.key_sessions.specs.internal.Numbers.{had_keys, picks};
-ghost use Rattle.key_sessions.specs.internal.Steps.{applied, closed_slot, closed_text, given};
+ghost use Rattle.key_sessions.specs.internal.Steps.{applied, closed_slot, closed_text, given, text_if};
 ghost use Rattle.key_sessions.specs.declared.slot.SlotStage.TheVariants as kept;
 
 use hmac_kit::KeyBlock;
@@ -78,13 +78,20 @@ pub(crate) struct Slot<T> {
 pub(crate) enum Change<T> {
     // Its text is taken out.
     Take,
-    // A text is put there, on this engine connection.
+    // A text is put there if it is open, on this engine connection.
     Put(T, Conn),
     // Its session is closed.
     Close,
 }
 
-impl<T> Slot<T> {
+// A text that is put where the session is open.
+fn text_if<T: Drop>(text: T, is_open: bool) -> Option<T>
+    ensures { result ≡ text_if text is_open }
+{
+    if is_open { Some(text) } else { None }
+}
+
+impl<T: Drop> Slot<T> {
     // Makes a change, and gives the text that was there.
     pub(crate) fn change(&mut self, change: Change<T>) -> Option<T>
         ensures text { result ≡ given change self.old }
@@ -94,7 +101,8 @@ impl<T> Slot<T> {
             Change::Take => mem::replace(&mut self.text, None),
             Change::Put(text, conn) => {
                 self.conn = conn;
-                mem::replace(&mut self.text, Some(text))
+                let text = text_if(text, self.stage.is_open());
+                mem::replace(&mut self.text, text)
             }
             Change::Close => self.close(),
         }

@@ -1,5 +1,6 @@
 -- One change of one slot.
-use Rattle.std.specs.Prelude.{List, [], ◌∷◌, Option, Some, None}
+use Rattle.std.specs.Prelude.{Bool, true, false, Option, Some, None}
+use Rattle.key_sessions.specs.Slots.{is_open_stage}
 use Rattle.key_sessions.specs.declared.slot.Slot.{Slot}
 use Rattle.key_sessions.specs.declared.slot.SlotStage.{SlotStage}
 use Rattle.key_sessions.specs.declared.slot.SlotStage.TheVariants.{Keyed, Closed}
@@ -16,10 +17,15 @@ abbrev pub closed_text : {T : Type 0} → Slot T → SlotStage → Option T
 closed_text slot (Keyed k) = slot.text
 closed_text slot stage = None
 
+-- a text that is put where the session is open
+abbrev pub text_if : {T : Type 0} → T → Bool → Option T
+text_if text true = Some text
+text_if text false = None
+
 -- the slot after a change
 abbrev pub applied : {T : Type 0} → Change T → Slot T → Slot T
 applied Take slot = record slot { text = None }
-applied (Put text conn) slot = record slot { text = Some text; conn = conn }
+applied (Put text conn) slot = record slot { text = text_if text (is_open_stage slot.stage); conn = conn }
 applied Close slot = closed_slot slot slot.stage
 
 -- the text that a change gives

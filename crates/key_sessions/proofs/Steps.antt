@@ -1,0 +1,205 @@
+-- The calls that change one slot, over all slots and over all sessions.
+use Rattle.std.proofs.Common.{◌≡◌, ◌≢◌, ◌≤◌, ◌<◌, ℕ, zero, suc, ◌+◌, T, Bool, true, false, List, [], ◌∷◌, ◌++◌, length, Option, Some, None, refl, ap, sym, subst, ◌∙◌, arith, rules, slice_set}
+use Rattle.std.proofs.lemmas.Bool.{false≢true}
+use Rattle.std.proofs.lemmas.Option.{none-some}
+use Rattle.std.specs.Prelude.{◌&&◌, slice_get, is_some, IfSome}
+use Rattle.vpn_base.specs.declared.names.Conn.{Conn}
+use Rattle.peer_table.specs.KeySessions.{Session, closed, has_keys, is_open, is_keyed, newest_usable}
+use Rattle.peer_table.specs.KeySessions as sessions
+use Rattle.peer_table.specs.Exchange.{is_open_keyed}
+use Rattle.peer_table.specs.Orderly.{IsOrderly}
+use Rattle.peer_table.specs.Places.{changed_at}
+use Rattle.peer_table.specs.Time.{is_open_session}
+use Rattle.key_sessions.specs.Changes.{KeepsPlace}
+use Rattle.key_sessions.specs.declared.slot.Slot.{Slot}
+use Rattle.key_sessions.specs.declared.slot.SlotStage.{SlotStage}
+use Rattle.key_sessions.specs.declared.slot.SlotStage.TheVariants as kept
+use Rattle.key_sessions.specs.declared.slot.Change.{Change}
+use Rattle.key_sessions.specs.declared.slot.Change.TheVariants.{Take, Put, Close}
+use Rattle.key_sessions.specs.declared.slots.Slots.{Slots}
+use Rattle.key_sessions.specs.internal.Steps.{applied, closed_slot, closed_text, given, given_at, text_if}
+use Rattle.key_sessions.specs.Slots.{AreSlotsOf, EachStands, HasText, HasTextAt, IsStage, IsWhole, IsWholeBut, LastIsOpen, SlotStands, SlotsStand, StandsIfThere, all_slots, is_open_stage}
+use Rattle.key_sessions.proofs.Orders.{Keeps, changed_orderly, still_open, still_open_beside}
+use Rattle.key_sessions.proofs.Sets.{both_changed, whole_again, whole_but, whole_still}
+use Rattle.key_sessions.proofs.Usable.{none_at, stands_at}
+
+-- what a change of the slot of a number makes of the slots
+pub record Changes {T : Type 0} (change : Change T) (n : ℕ) (before after : Slots T) : Type 0 where
+  pub slot : (slot : Slot T) → slice_get (all_slots before) n ≡ Some slot → all_slots after ≡ slice_set (all_slots before) n (applied change slot)
+  pub none : slice_get (all_slots before) n ≡ None → after ≡ before
+
+nothing_changed : (n : ℕ) (f : Session → Session) (ss : List Session) → slice_get ss n ≡ None → changed_at n f ss ≡ ss
+nothing_changed n f [] none = refl
+nothing_changed zero f (s ∷ ss) none = absurd (none-some s (sym none))
+nothing_changed (suc n) f (s ∷ ss) none = ap (λ ts. s ∷ ts) (nothing_changed n f ss none)
+
+as_it_was : (n : ℕ) (ss : List Session) → changed_at n (λ s. s) ss ≡ ss
+as_it_was n [] = refl
+as_it_was zero (s ∷ ss) = refl
+as_it_was (suc n) (s ∷ ss) = ap (λ ts. s ∷ ts) (as_it_was n ss)
+
+step_by : {T : Type 0} (stands_for : T → Session → Type 0) (before after : Slots T) (ss : List Session) (n : ℕ) (change : Change T) (f : Session → Session)
+    (o : Option (Slot T)) → slice_get (all_slots before) n ≡ o → Changes change n before after → SlotsStand stands_for before ss →
+    ((slot : Slot T) (s : Session) → slice_get ss n ≡ Some s → SlotStands stands_for slot s → SlotStands stands_for (applied change slot) (f s)) →
+    EachStands stands_for (all_slots after) (changed_at n f ss)
+unfolding SlotsStand
+step_by {T = T} stands_for before after ss n change f (Some slot) is changes are steps =
+    let here = stands_at stands_for before ss n slot are is in
+    let each = both_changed stands_for (all_slots before) ss n (applied change slot) f are.each
+        (λ s at. let same : here.0 ≡ s = cc (here.1, at) in steps slot s at (subst (SlotStands stands_for slot) same here.2)) in
+    subst (λ (slots : List (Slot T)). EachStands stands_for slots (changed_at n f ss)) (sym (changes.slot slot is)) each
+step_by {T = T} stands_for before after ss n change f None is changes are steps =
+    let gone = none_at stands_for before ss n are is in
+    subst (λ (ts : List Session). EachStands stands_for (all_slots after) ts) (sym (nothing_changed n f ss gone))
+    (subst (λ (slots : Slots T). EachStands stands_for (all_slots slots) ss) (sym (changes.none is)) are.each)
+
+-- a slot and its session are changed together
+pub stepped : {T : Type 0} (stands_for : T → Session → Type 0) (before after : Slots T) (ss : List Session) (n : ℕ) (change : Change T) (f : Session → Session) →
+    Changes change n before after → SlotsStand stands_for before ss →
+    ((slot : Slot T) (s : Session) → slice_get ss n ≡ Some s → SlotStands stands_for slot s → SlotStands stands_for (applied change slot) (f s)) →
+    IsOrderly (changed_at n f ss) → LastIsOpen (changed_at n f ss) → SlotsStand stands_for after (changed_at n f ss)
+unfolding SlotsStand
+stepped stands_for before after ss n change f changes are steps orderly sealing = record {
+  each = step_by stands_for before after ss n change f (slice_get (all_slots before) n) refl changes are steps;
+  orderly = orderly;
+  sealing = sealing;
+}
+
+-- ---- the text is taken
+
+-- the slots stand for the same sessions
+pub taken_stands : {T : Type 0} (stands_for : T → Session → Type 0) (before after : Slots T) (ss : List Session) (n : ℕ) →
+    Changes Take n before after → SlotsStand stands_for before ss → SlotsStand stands_for after ss
+unfolding SlotsStand
+taken_stands {T = T} stands_for before after ss n changes are =
+    let each = step_by stands_for before after ss n Take (λ s. s) (slice_get (all_slots before) n) refl changes are
+        (λ slot s at stands. record { conn = stands.conn; began = stands.began; is_open = stands.is_open; stage = stands.stage; text = tt }) in
+    record { each = subst (λ (ts : List Session). EachStands stands_for (all_slots after) ts) (as_it_was n ss) each; orderly = are.orderly; sealing = are.sealing }
+
+taken_by : {T : Type 0} (before after : Slots T) (n : ℕ) (o : Option (Slot T)) → slice_get (all_slots before) n ≡ o → Changes Take n before after → IsWhole before → IsWholeBut n after
+unfolding IsWhole IsWholeBut
+taken_by {T = T} before after n (Some slot) is changes whole =
+    subst (λ (slots : List (Slot T)). (m : ℕ) → m ≢ n → HasTextAt (slice_get slots m)) (sym (changes.slot slot is)) (whole_but (all_slots before) n (applied Take slot) whole)
+taken_by {T = T} before after n None is changes whole =
+    subst (λ (slots : Slots T). (m : ℕ) → m ≢ n → HasTextAt (slice_get (all_slots slots) m)) (sym (changes.none is)) (λ m other. whole m)
+
+-- all other texts are there
+pub taken_whole : {T : Type 0} (before after : Slots T) (n : ℕ) → Changes Take n before after → IsWhole before → IsWholeBut n after
+taken_whole before after n changes whole = taken_by before after n (slice_get (all_slots before) n) refl changes whole
+
+there_by : {T : Type 0} (stands_for : T → Session → Type 0) (before : Slots T) (ss : List Session) (n : ℕ) (o : Option (Slot T)) → slice_get (all_slots before) n ≡ o →
+    IsWhole before → SlotsStand stands_for before ss → is_some (given_at Take o) ≡ is_open_session (slice_get ss n)
+unfolding IsWhole
+there_by {T = T} stands_for before ss n (Some slot) is whole are =
+    let here = stands_at stands_for before ss n slot are is in
+    let has : HasTextAt (Some slot) = subst (λ (o : Option (Slot T)). HasTextAt o) is (whole n) in
+    has ∙ here.2.is_open ∙ sym (ap is_open_session here.1)
+there_by {T = T} stands_for before ss n None is whole are = sym (ap is_open_session (none_at stands_for before ss n are is))
+
+-- a text is taken exactly from an open session
+pub taken_there : {T : Type 0} (stands_for : T → Session → Type 0) (before : Slots T) (ss : List Session) (n : ℕ) (result : Option T) →
+    result ≡ given_at Take (slice_get (all_slots before) n) → IsWhole before → SlotsStand stands_for before ss → is_some result ≡ is_open_session (slice_get ss n)
+taken_there stands_for before ss n result is whole are =
+    ap is_some is ∙ there_by stands_for before ss n (slice_get (all_slots before) n) refl whole are
+
+stands_so : {T : Type 0} (stands_for : T → Session → Type 0) (o : Option T) (text : T) (s : Session) → o ≡ Some text → StandsIfThere stands_for o s → stands_for text s
+stands_so stands_for None text s is stands = absurd (none-some text is)
+stands_so stands_for (Some t) text s is stands = let same : t ≡ text = cc is in subst (λ u. stands_for u s) same stands
+
+given_stands : {T : Type 0} (stands_for : T → Session → Type 0) (change : Change T) (slot : Slot T) (text : T) (s : Session) → given change slot ≡ Some text →
+    SlotStands stands_for slot s → stands_for text s
+given_stands stands_for Take slot text s is stands = stands_so stands_for slot.text text s is stands.text
+given_stands stands_for (Put t conn) slot text s is stands = stands_so stands_for slot.text text s is stands.text
+given_stands {T = T} stands_for Close slot text s is stands = closing slot.stage refl
+  where
+    closing : (stage : SlotStage) → slot.stage ≡ stage → stands_for text s
+    closing (kept.Keyed k) at = stands_so stands_for slot.text text s (sym (ap (closed_text slot) at) ∙ is) stands.text
+    closing (kept.Opening k) at = absurd (none-some text (sym (ap (closed_text slot) at) ∙ is))
+    closing (kept.Named k) at = absurd (none-some text (sym (ap (closed_text slot) at) ∙ is))
+    closing (kept.Closed c) at = absurd (none-some text (sym (ap (closed_text slot) at) ∙ is))
+
+text_by : {T : Type 0} (stands_for : T → Session → Type 0) (change : Change T) (before : Slots T) (ss : List Session) (n : ℕ) (text : T) (s : Session) (o : Option (Slot T)) →
+    slice_get (all_slots before) n ≡ o → given_at change o ≡ Some text → SlotsStand stands_for before ss → slice_get ss n ≡ Some s → stands_for text s
+text_by {T = T} stands_for change before ss n text s (Some slot) is gave are at =
+    let here = stands_at stands_for before ss n slot are is in
+    let same : here.0 ≡ s = cc (here.1, at) in
+    given_stands stands_for change slot text s gave (subst (SlotStands stands_for slot) same here.2)
+text_by stands_for change before ss n text s None is gave are at = absurd (none-some text gave)
+
+-- a text that a change gives stands for its session
+pub text_stands : {T : Type 0} (stands_for : T → Session → Type 0) (change : Change T) (before : Slots T) (ss : List Session) (n : ℕ) (text : T) (s : Session) →
+    given_at change (slice_get (all_slots before) n) ≡ Some text → SlotsStand stands_for before ss → slice_get ss n ≡ Some s → stands_for text s
+text_stands stands_for change before ss n text s gave are at = text_by stands_for change before ss n text s (slice_get (all_slots before) n) refl gave are at
+
+if_some : {T : Type 0} (o : Option T) (P : T → Type 0) → ((text : T) → o ≡ Some text → P text) → IfSome o P
+if_some None P each = tt
+if_some (Some text) P each = each text refl
+
+-- the same of an answer
+pub answer_stands : {T : Type 0} (stands_for : T → Session → Type 0) (change : Change T) (before : Slots T) (n : ℕ) (result : Option T) →
+    result ≡ given_at change (slice_get (all_slots before) n) →
+    IfSome result (λ text. (ss : List Session) (s : Session) → SlotsStand stands_for before ss → slice_get ss n ≡ Some s → stands_for text s)
+answer_stands stands_for change before n result is =
+    if_some result _ (λ text some ss s are at. text_stands stands_for change before ss n text s (sym is ∙ some) are at)
+
+-- ---- a text is put back
+
+put_slot : {T : Type 0} (stands_for : T → Session → Type 0) (slot : Slot T) (text : T) (conn : Conn) (b : Bool) (change : Session → Session) (s : Session) →
+    SlotStands stands_for slot s → KeepsPlace change s → conn ≡ (change s).link.conn → stands_for text (change s) →
+    SlotStands stands_for (applied (Put text conn) slot) (change s)
+put_slot stands_for slot text conn b change s stands keeps same text_stands = record {
+  conn = same;
+  began = stands.began ∙ sym keeps.began;
+  is_open = stands.is_open ∙ sym keeps.is_open;
+  stage = subst (IsStage slot.stage) (sym keeps.stage) stands.stage;
+  text = put_there stands_for text (change s) (is_open_stage slot.stage) text_stands;
+}
+  where
+    put_there : {T : Type 0} (stands_for : T → Session → Type 0) (text : T) (s : Session) (b : Bool) → stands_for text s → StandsIfThere stands_for (text_if text b) s
+    put_there stands_for text s true stands = stands
+    put_there stands_for text s false stands = tt
+
+keys_kept : (change : Session → Session) (s : Session) → KeepsPlace change s → has_keys (change s) ≡ has_keys s
+keys_kept change s keeps = ap is_keyed keeps.stage
+
+keyed_kept : (change : Session → Session) (s : Session) → KeepsPlace change s → is_open_keyed (change s) ≡ is_open_keyed s
+keyed_kept change s keeps = ap (λ b. b && has_keys (change s)) keeps.is_open ∙ ap (λ b. s.is_open && b) (keys_kept change s keeps)
+
+-- the slots stand for the sessions with the changed one
+pub put_stands : {T : Type 0} (stands_for : T → Session → Type 0) (before after : Slots T) (ss : List Session) (n : ℕ) (text : T) (conn : Conn) (change : Session → Session) →
+    Changes (Put text conn) n before after → SlotsStand stands_for before ss → ((s : Session) → slice_get ss n ≡ Some s → KeepsPlace change s) →
+    ((s : Session) → stands_for text s → conn ≡ s.link.conn) → ((s : Session) → slice_get ss n ≡ Some s → stands_for text (change s)) →
+    SlotsStand stands_for after (changed_at n change ss)
+unfolding SlotsStand
+put_stands stands_for before after ss n text conn change changes are keeps conns texts =
+    stepped stands_for before after ss n (Put text conn) change changes are
+    (λ slot s at stands. put_slot stands_for slot text conn true change s stands (keeps s at) (conns (change s) (texts s at)) (texts s at))
+    (changed_orderly n change ss (λ s at. record {
+      keyed = λ k. keys_kept change s (keeps s at) ∙ k;
+      few = λ k. sym (keyed_kept change s (keeps s at)) ∙ k;
+    }) are.orderly)
+    (still_open n change ss (λ s at. keys_kept change s (keeps s at)) (λ s at. (keeps s at).is_open) are.sealing)
+
+has_if : {T : Type 0} (text : T) (b : Bool) → is_some (text_if text b) ≡ b
+has_if text true = refl
+has_if text false = refl
+
+put_by : {T : Type 0} (before after : Slots T) (n : ℕ) (text : T) (conn : Conn) (o : Option (Slot T)) → slice_get (all_slots before) n ≡ o →
+    Changes (Put text conn) n before after → IsWholeBut n before → IsWhole after
+unfolding IsWhole IsWholeBut
+put_by {T = T} before after n text conn (Some slot) is changes whole =
+    subst (λ (slots : List (Slot T)). (m : ℕ) → HasTextAt (slice_get slots m)) (sym (changes.slot slot is))
+    (whole_again (all_slots before) n (applied (Put text conn) slot) whole (has_if text (is_open_stage slot.stage)))
+put_by {T = T} before after n text conn None is changes whole =
+    subst (λ (slots : Slots T). (m : ℕ) → HasTextAt (slice_get (all_slots slots) m)) (sym (changes.none is))
+    (λ m. whole_without (all_slots before) n is whole m)
+  where
+    whole_without : {T : Type 0} (slots : List (Slot T)) (n : ℕ) → slice_get slots n ≡ None → ((m : ℕ) → m ≢ n → HasTextAt (slice_get slots m)) → (m : ℕ) → HasTextAt (slice_get slots m)
+    whole_without [] n none whole m = tt
+    whole_without (a ∷ slots) zero none whole m = absurd (none-some a (sym none))
+    whole_without (a ∷ slots) (suc n) none whole zero = whole zero (λ e. absurd (omega (arith, e)))
+    whole_without (a ∷ slots) (suc n) none whole (suc m) = whole_without slots n none (λ k other. whole (suc k) (λ e. other (omega (arith, e)))) m
+
+-- all texts are there
+pub put_whole : {T : Type 0} (before after : Slots T) (n : ℕ) (text : T) (conn : Conn) → Changes (Put text conn) n before after → IsWholeBut n before → IsWhole after
+put_whole before after n text conn changes whole = put_by before after n text conn (slice_get (all_slots before) n) refl changes whole

@@ -1,0 +1,97 @@
+//! What changes the sessions of a client.
+
+ghost use Rattle.std.specs.Prelude.{◌≡◌, ◌+◌, ◌≤◌, ◌++◌, ◌∷◌, [], List, IfOk, IfErr, IfSome, IsOk, OnOk, OnErr, Some, is_some, slice_get};
+ghost use Rattle.peer_table.specs.KeySessions.{Session};
+ghost use Rattle.peer_table.specs.Peer.{Peer};
+ghost use Rattle.peer_table.specs.Places.{changed_at};
+ghost use Rattle.peer_table.specs.Time.{is_open_session, retired};
+ghost use Rattle.key_sessions.specs.Changes.{KeepsPlace, closed_in};
+ghost use Rattle.key_sessions.specs.Sessions.{OpeningStands};
+ghost use Rattle.key_sessions.specs.Slots.{IsWhole, IsWholeBut, SlotsStand, all_slots, newest_number, newest_stage, room};
+ghost use Rattle.key_sessions.specs.declared.slot.Stage.TheVariants as stages;
+
+use crate::session::{KeySession, Opening};
+use crate::slot::{Change, slot_of};
+use crate::slots::Slots;
+use crate::text::{SessionText, conn_of};
+use std::mem;
+use vpn_base::{Moment, NoMemory};
+
+impl<T: SessionText> Slots<T> {
+    /// Takes the room for one more session.
+    #[tactic(auto, unfolding(crate::specs::Slots::SlotsStand, crate::specs::Slots::IsWhole, crate::specs::Slots::newest_stage, crate::specs::Slots::newest_number, crate::specs::Slots::room))]
+    pub fn reserve(&mut self) -> Result<(), NoMemory>
+        ensures stands { (ss : List Session) → SlotsStand T.stands_for self.old ss → SlotsStand T.stands_for self.new ss }
+        ensures ok { OnOk result (1 ≤ room self.new) }
+        ensures fits { 1 ≤ room self.old → IsOk result }
+        ensures grows { room self.old ≤ room self.new }
+        ensures whole { IsWhole self.old → IsWhole self.new }
+        ensures stage { newest_stage self.new ≡ newest_stage self.old }
+        ensures number { newest_number self.new ≡ newest_number self.old }
+    {
+        self.earlier.reserve(1)?;
+        Ok(())
+    }
+
+    /// The next session begins, which has to have the next number; the newest one has to have keys. It takes
+    /// no memory where there is room for one more. At want of memory the session is handed back.
+    #[tactic(auto, unfolding(crate::specs::Slots::newest_stage, crate::specs::Slots::newest_number, crate::specs::Slots::room))]
+    pub fn begin_next(&mut self, next: KeySession<T, Opening>) -> Result<(), (KeySession<T, Opening>, NoMemory)>
+        requires keyed { newest_stage self.old ≡ stages.Keyed }
+        requires number { next.number ≡ newest_number self.old + 1 }
+        ensures begun { OnOk result ((ss : List Session) (s : Session) → SlotsStand T.stands_for self.old ss → OpeningStands T.stands_for next s →
+            SlotsStand T.stands_for self.new (ss ++ s ∷ [])) }
+        ensures whole { IsWhole self.old → IsWhole self.new }
+        ensures stage { OnOk result (newest_stage self.new ≡ stages.Opening) }
+        ensures number { OnOk result (newest_number self.new ≡ newest_number self.old + 1) }
+        ensures kept { OnErr result ((ss : List Session) → SlotsStand T.stands_for self.old ss → SlotsStand T.stands_for self.new ss) }
+        ensures same { OnErr result ((newest_stage self.new ≡ newest_stage self.old) × (newest_number self.new ≡ newest_number self.old)) }
+        ensures returned { IfErr result (λ refused. refused.0 ≡ next) }
+        ensures fits { 1 ≤ room self.old → IsOk result }
+    {
+        match self.reserve() {
+            Ok(()) => {}
+            Err(fault) => return Err((next, fault)),
+        }
+        let before = mem::replace(&mut self.newest, slot_of(next));
+        let pushed = self.earlier.push(before);
+        prove!(pushed.is_ok());
+        let _ = pushed;
+        Ok(())
+    }
+
+    /// Takes the text of an open session out of the slots, until `put_text` puts it back. None comes exactly
+    /// where there is no open session of this number.
+    #[tactic(auto, unfolding(crate::specs::Slots::newest_number))]
+    pub fn take_text(&mut self, number: u64) -> Option<T>
+        requires { IsWhole self.old }
+        ensures some { (ss : List Session) → SlotsStand T.stands_for self.old ss → is_some result ≡ is_open_session (slice_get ss number) }
+        ensures text { IfSome result (λ text. (ss : List Session) (s : Session) → SlotsStand T.stands_for self.old ss →
+            slice_get ss number ≡ Some s → T.stands_for text s) }
+        ensures stands { (ss : List Session) → SlotsStand T.stands_for self.old ss → SlotsStand T.stands_for self.new ss }
+        ensures whole { IsWholeBut number self.new }
+        ensures stage { newest_stage self.new ≡ newest_stage self.old }
+        ensures number { newest_number self.new ≡ newest_number self.old }
+        ensures room { room self.new ≡ room self.old }
+    {
+        self.change(number, Change::Take)
+    }
+
+    /// Puts a text back, for what has become of the session of this number meanwhile: any change of it that
+    /// leaves alone its beginning, its stage and whether it is open.
+    #[tactic(auto, unfolding(crate::specs::Slots::newest_number))]
+    pub fn put_text(&mut self, number: u64, text: T)
+        requires { IsWholeBut number self.old }
+        ensures stands { (ss : List Session) (change : Session → Session) → SlotsStand T.stands_for self.old ss →
+            ((s : Session) → slice_get ss number ≡ Some s → KeepsPlace change s) →
+            ((s : Session) → slice_get ss number ≡ Some s → T.stands_for text (change s)) →
+            SlotsStand T.stands_for self.new (changed_at number change ss) }
+        ensures whole { IsWhole self.new }
+        ensures stage { newest_stage self.new ≡ newest_stage self.old }
+        ensures number { newest_number self.new ≡ newest_number self.old }
+        ensures room { room self.new ≡ room self.old }
+    {
+        let conn = conn_of(&text);
+        let _ = self.change(number, Change::Put(text, conn));
+    }
+}
