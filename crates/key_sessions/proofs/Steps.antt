@@ -18,10 +18,15 @@ use Rattle.key_sessions.specs.declared.slot.Change.{Change}
 use Rattle.key_sessions.specs.declared.slot.Change.TheVariants.{Take, Put, Close}
 use Rattle.key_sessions.specs.declared.slots.Slots.{Slots}
 use Rattle.key_sessions.specs.internal.Steps.{applied, closed_slot, closed_text, given, given_at, text_if}
-use Rattle.key_sessions.specs.Slots.{AreSlotsOf, EachStands, HasText, HasTextAt, IsStage, IsWhole, IsWholeBut, LastIsOpen, SlotStands, SlotsStand, StandsIfThere, all_slots, is_open_stage}
-use Rattle.key_sessions.proofs.Orders.{Keeps, changed_orderly, still_open, still_open_beside}
-use Rattle.key_sessions.proofs.Sets.{both_changed, whole_again, whole_but, whole_still}
-use Rattle.key_sessions.proofs.Usable.{none_at, stands_at}
+use Rattle.key_sessions.specs.Slots.{AreSlotsOf, EachStands, HasText, HasTextAt, IsStage, IsWhole, IsWholeBut, LastIsOpen, SlotStands, SlotsStand, StandsIfThere, all_slots, is_open_stage, newest_stage, stage_seen}
+use Rattle.key_sessions.specs.Sessions.{OpeningStands}
+use Rattle.key_sessions.specs.declared.session.KeySession.{KeySession}
+use Rattle.key_sessions.specs.declared.session.Opening.{Opening}
+use Rattle.key_sessions.specs.declared.slot.Stage.TheVariants as stages
+use Rattle.key_sessions.specs.internal.Numbers.{had_keys}
+use Rattle.key_sessions.proofs.Orders.{Keeps, changed_orderly, next_open, next_orderly, still_open, still_open_beside}
+use Rattle.key_sessions.proofs.Sets.{both_changed, both_more, whole_again, whole_but, whole_more, whole_still}
+use Rattle.key_sessions.proofs.Usable.{newest_stands, none_at, same_keys, session_count, stands_at}
 
 -- what a change of the slot of a number makes of the slots
 pub record Changes {T : Type 0} (change : Change T) (n : ℕ) (before after : Slots T) : Type 0 where
@@ -203,3 +208,46 @@ put_by {T = T} before after n text conn None is changes whole =
 -- all texts are there
 pub put_whole : {T : Type 0} (before after : Slots T) (n : ℕ) (text : T) (conn : Conn) → Changes (Put text conn) n before after → IsWholeBut n before → IsWhole after
 put_whole before after n text conn changes whole = put_by before after n text conn (slice_get (all_slots before) n) refl changes whole
+
+-- ---- the next session
+
+opening_keys : (s : Session) → s.stage ≡ sessions.Opening → (has_keys s ≡ false) × (is_open_keyed s ≡ false)
+opening_keys s is = (ap is_keyed is, ap (λ stage. s.is_open && is_keyed stage) is ∙ none s.is_open)
+  where
+    none : (b : Bool) → (b && false) ≡ false
+    none true = refl
+    none false = refl
+
+-- the slots stand for one session more
+pub next_stands : {T : Type 0} (stands_for : T → Session → Type 0) (before after : Slots T) (ss : List Session) (k : KeySession T Opening) (slot : Slot T) (s : Session) →
+    all_slots after ≡ all_slots before ++ slot ∷ [] → newest_stage before ≡ stages.Keyed → SlotsStand stands_for before ss → OpeningStands stands_for k s →
+    SlotStands stands_for slot s → SlotsStand stands_for after (ss ++ s ∷ [])
+unfolding SlotsStand newest_stage OpeningStands
+next_stands {T = T} stands_for before after ss k slot s slots keyed are opens stands =
+    let last = newest_stands stands_for before ss are in
+    let none = opening_keys s opens.stage in
+    record {
+      each = subst (λ (all : List (Slot T)). EachStands stands_for all (ss ++ s ∷ [])) (sym slots) (both_more stands_for (all_slots before) ss slot s are.each stands);
+      orderly = next_orderly ss (length before.earlier.items) last.0 s (session_count stands_for before ss are) last.1
+          (same_keys before.newest.stage last.0.stage last.2.stage ∙ had_if before.newest.stage keyed) none.1 are.orderly;
+      sealing = next_open ss s none.0 are.sealing;
+    }
+  where
+    had_if : (kept : SlotStage) → stage_seen kept ≡ stages.Keyed → had_keys kept ≡ true
+    had_if (kept.Opening k) e = absurd (Opening≢ e)
+      where
+        Opening≢ : stages.Opening ≡ stages.Keyed → ⊥
+        Opening≢ e = cc e
+    had_if (kept.Named k) e = absurd (Named≢ e)
+      where
+        Named≢ : stages.Named ≡ stages.Keyed → ⊥
+        Named≢ e = cc e
+    had_if (kept.Keyed k) e = refl
+    had_if (kept.Closed c) e = refl
+
+-- all texts are there
+pub next_whole : {T : Type 0} (before after : Slots T) (slot : Slot T) → all_slots after ≡ all_slots before ++ slot ∷ [] →
+    HasText (is_open_stage slot.stage) slot.text → IsWhole before → IsWhole after
+unfolding IsWhole
+next_whole {T = T} before after slot slots has whole =
+    subst (λ (all : List (Slot T)). (n : ℕ) → HasTextAt (slice_get all n)) (sym slots) (whole_more (all_slots before) slot whole has)

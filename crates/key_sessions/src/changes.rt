@@ -14,7 +14,6 @@ use crate::session::{KeySession, Opening};
 use crate::slot::{Change, slot_of};
 use crate::slots::Slots;
 use crate::text::{SessionText, conn_of};
-use std::mem;
 use vpn_base::{Moment, NoMemory};
 
 impl<T: SessionText> Slots<T> {
@@ -53,10 +52,7 @@ impl<T: SessionText> Slots<T> {
             Ok(()) => {}
             Err(fault) => return Err((next, fault)),
         }
-        let before = mem::replace(&mut self.newest, slot_of(next));
-        let pushed = self.earlier.push(before);
-        prove!(pushed.is_ok());
-        let _ = pushed;
+        self.push(slot_of(next));
         Ok(())
     }
 

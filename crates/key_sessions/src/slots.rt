@@ -1,6 +1,6 @@
 //! The key sessions of one client, in slots.
 
-ghost use Rattle.std.specs.Prelude.{◌≡◌, [], ◌∷◌, List, length, slice_get, slice_set, Some, None};
+ghost use Rattle.std.specs.Prelude.{◌≡◌, ◌≤◌, ◌+◌, [], ◌∷◌, ◌++◌, List, length, slice_get, slice_set, Some, None};
 ghost use Rattle.std.specs.Option.{option_copied};
 ghost use Rattle.peer_table.specs.KeySessions.{Session};
 ghost use Rattle.key_sessions.specs.Sessions.{OpeningStands};
@@ -14,6 +14,7 @@ use crate::session::{KeySession, Opening};
 use crate::slot::{Change, Slot, slot_of};
 use crate::text::SessionText;
 use std::alloc::Global;
+use std::mem;
 
 /// All key sessions of one client: the newest, and the list of all before it. A closed one loses its text
 /// and keeps its number.
@@ -79,6 +80,20 @@ impl<T> Slots<T> {
 }
 
 impl<T: Drop> Slots<T> {
+    // One more slot, behind all others.
+    #[tactic(auto, unfolding(crate::specs::Slots::room))]
+    pub(crate) fn push(&mut self, slot: Slot<T>)
+        requires { 1 ≤ room self.old }
+        ensures slots { all_slots self.new ≡ all_slots self.old ++ slot ∷ [] }
+        ensures newest { self.new.newest ≡ slot }
+        ensures count { length self.new.earlier.items ≡ length self.old.earlier.items + 1 }
+    {
+        let before = mem::replace(&mut self.newest, slot);
+        let pushed = self.earlier.push(before);
+        prove!(pushed.is_ok());
+        let _ = pushed;
+    }
+
     // Makes a change in the slot of a number, if there is one, and gives the text that was there.
     #[tactic(auto, using(crate::proofs::Sets::set_end, crate::proofs::Each::at_end, crate::proofs::Each::before_end, crate::proofs::Each::past_end, crate::proofs::Sets::same_seen), unfolding(crate::specs::Slots::room, crate::specs::Slots::newest_stage))]
     pub(crate) fn change(&mut self, number: u64, change: Change<T>) -> Option<T>
