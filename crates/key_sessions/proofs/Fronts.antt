@@ -1,5 +1,5 @@
 -- Which sessions have keys, where all but the newest do.
-use Rattle.std.proofs.Common.{◌≡◌, ℕ, zero, suc, ◌+◌, ◌<◌, Bool, true, false, List, [], ◌∷◌, length, take, Option, Some, None, refl, ap, ◌∙◌, arith, rules}
+use Rattle.std.proofs.Common.{◌≡◌, ℕ, zero, suc, ◌+◌, ◌<◌, Bool, true, false, List, [], ◌∷◌, length, take, Option, Some, None, refl, ap, sym, ◌∙◌, arith, rules}
 use Rattle.std.proofs.lemmas.Bool.{false≢true}
 use Rattle.std.specs.Prelude.{◌&&◌, slice_get}
 use Rattle.peer_table.specs.KeySessions.{Session, has_keys, keyed_before, newest_usable, retiring}
@@ -49,3 +49,14 @@ last_of_all (a ∷ b ∷ ss) (suc n) s keyed size is =
     let others = parts.1 in
     let rest = last_of_all (b ∷ ss) n s others (omega (arith, size)) is in
     rw have (rw rest (later_if (has_keys s) n))
+
+-- a session before the newest has keys
+pub keyed_before_newest : (ss : List Session) (n : ℕ) (s : Session) → all_before_have_keys ss ≡ true → suc n < length ss → slice_get ss n ≡ Some s → has_keys s ≡ true
+keyed_before_newest [] n s keyed below is = absurd (omega (arith, below))
+keyed_before_newest (a ∷ []) n s keyed below is = absurd (omega (arith, below))
+keyed_before_newest (a ∷ b ∷ ss) zero s keyed below is =
+    let parts = both {a = has_keys a} {b = all_before_have_keys (b ∷ ss)} keyed in
+    let same : a ≡ s = cc is in ap has_keys (sym same) ∙ parts.0
+keyed_before_newest (a ∷ b ∷ ss) (suc n) s keyed below is =
+    let parts = both {a = has_keys a} {b = all_before_have_keys (b ∷ ss)} keyed in
+    keyed_before_newest (b ∷ ss) n s parts.1 (omega (arith, below)) is

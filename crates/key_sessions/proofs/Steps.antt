@@ -9,8 +9,8 @@ use Rattle.peer_table.specs.KeySessions as sessions
 use Rattle.peer_table.specs.Exchange.{is_open_keyed}
 use Rattle.peer_table.specs.Orderly.{IsOrderly}
 use Rattle.peer_table.specs.Places.{changed_at}
-use Rattle.peer_table.specs.Time.{is_open_session}
-use Rattle.key_sessions.specs.Changes.{KeepsPlace}
+use Rattle.peer_table.specs.Time.{is_open_session, retired}
+use Rattle.key_sessions.specs.Changes.{KeepsPlace, closed_in}
 use Rattle.key_sessions.specs.declared.slot.Slot.{Slot}
 use Rattle.key_sessions.specs.declared.slot.SlotStage.{SlotStage}
 use Rattle.key_sessions.specs.declared.slot.SlotStage.TheVariants as kept
@@ -22,11 +22,17 @@ use Rattle.key_sessions.specs.Slots.{AreSlotsOf, EachStands, HasText, HasTextAt,
 use Rattle.key_sessions.specs.Sessions.{OpeningStands}
 use Rattle.key_sessions.specs.declared.session.KeySession.{KeySession}
 use Rattle.key_sessions.specs.declared.session.Opening.{Opening}
+use Rattle.key_sessions.specs.declared.session.Keyed.{Keyed}
 use Rattle.key_sessions.specs.declared.slot.Stage.TheVariants as stages
 use Rattle.key_sessions.specs.internal.Numbers.{had_keys}
 use Rattle.key_sessions.proofs.Orders.{Keeps, changed_orderly, next_open, next_orderly, still_open, still_open_beside}
 use Rattle.key_sessions.proofs.Sets.{both_changed, both_more, whole_again, whole_but, whole_more, whole_still}
-use Rattle.key_sessions.proofs.Usable.{newest_stands, none_at, same_keys, session_count, stands_at}
+use Rattle.key_sessions.proofs.Usable.{newest_stands, none_at, none_here, retired_one, retiring_before, same_keys, session_count, some_at, stands_at}
+use Rattle.key_sessions.proofs.Each.{BothAt, both_at}
+use Rattle.key_sessions.proofs.Fronts.{keyed_before_newest}
+use Rattle.peer_table.specs.Peer.{Peer}
+use Rattle.peer_table.specs.KeySessions.{session_at}
+use Rattle.peer_table.specs.Orderly.{all_before_have_keys}
 
 -- what a change of the slot of a number makes of the slots
 pub record Changes {T : Type 0} (change : Change T) (n : ℕ) (before after : Slots T) : Type 0 where
@@ -44,19 +50,20 @@ as_it_was zero (s ∷ ss) = refl
 as_it_was (suc n) (s ∷ ss) = ap (λ ts. s ∷ ts) (as_it_was n ss)
 
 step_by : {T : Type 0} (stands_for : T → Session → Type 0) (before after : Slots T) (ss : List Session) (n : ℕ) (change : Change T) (f : Session → Session)
-    (o : Option (Slot T)) → slice_get (all_slots before) n ≡ o → Changes change n before after → SlotsStand stands_for before ss →
+    (o : Option (Slot T)) → slice_get (all_slots before) n ≡ o → Changes change n before after → EachStands stands_for (all_slots before) ss →
     ((slot : Slot T) (s : Session) → slice_get ss n ≡ Some s → SlotStands stands_for slot s → SlotStands stands_for (applied change slot) (f s)) →
     EachStands stands_for (all_slots after) (changed_at n f ss)
-unfolding SlotsStand
-step_by {T = T} stands_for before after ss n change f (Some slot) is changes are steps =
-    let here = stands_at stands_for before ss n slot are is in
-    let each = both_changed stands_for (all_slots before) ss n (applied change slot) f are.each
+step_by {T = T} stands_for before after ss n change f (Some slot) is changes each_is steps =
+    let here = some_at stands_for slot (slice_get ss n)
+        (subst (λ (o : Option (Slot T)). BothAt stands_for o (slice_get ss n)) is (both_at stands_for (all_slots before) ss n each_is)) in
+    let each = both_changed stands_for (all_slots before) ss n (applied change slot) f each_is
         (λ s at. let same : here.0 ≡ s = cc (here.1, at) in steps slot s at (subst (SlotStands stands_for slot) same here.2)) in
     subst (λ (slots : List (Slot T)). EachStands stands_for slots (changed_at n f ss)) (sym (changes.slot slot is)) each
-step_by {T = T} stands_for before after ss n change f None is changes are steps =
-    let gone = none_at stands_for before ss n are is in
+step_by {T = T} stands_for before after ss n change f None is changes each_is steps =
+    let gone = none_here stands_for (slice_get ss n)
+        (subst (λ (o : Option (Slot T)). BothAt stands_for o (slice_get ss n)) is (both_at stands_for (all_slots before) ss n each_is)) in
     subst (λ (ts : List Session). EachStands stands_for (all_slots after) ts) (sym (nothing_changed n f ss gone))
-    (subst (λ (slots : Slots T). EachStands stands_for (all_slots slots) ss) (sym (changes.none is)) are.each)
+    (subst (λ (slots : Slots T). EachStands stands_for (all_slots slots) ss) (sym (changes.none is)) each_is)
 
 -- a slot and its session are changed together
 pub stepped : {T : Type 0} (stands_for : T → Session → Type 0) (before after : Slots T) (ss : List Session) (n : ℕ) (change : Change T) (f : Session → Session) →
@@ -65,7 +72,7 @@ pub stepped : {T : Type 0} (stands_for : T → Session → Type 0) (before after
     IsOrderly (changed_at n f ss) → LastIsOpen (changed_at n f ss) → SlotsStand stands_for after (changed_at n f ss)
 unfolding SlotsStand
 stepped stands_for before after ss n change f changes are steps orderly sealing = record {
-  each = step_by stands_for before after ss n change f (slice_get (all_slots before) n) refl changes are steps;
+  each = step_by stands_for before after ss n change f (slice_get (all_slots before) n) refl changes are.each steps;
   orderly = orderly;
   sealing = sealing;
 }
@@ -77,7 +84,7 @@ pub taken_stands : {T : Type 0} (stands_for : T → Session → Type 0) (before 
     Changes Take n before after → SlotsStand stands_for before ss → SlotsStand stands_for after ss
 unfolding SlotsStand
 taken_stands {T = T} stands_for before after ss n changes are =
-    let each = step_by stands_for before after ss n Take (λ s. s) (slice_get (all_slots before) n) refl changes are
+    let each = step_by stands_for before after ss n Take (λ s. s) (slice_get (all_slots before) n) refl changes are.each
         (λ slot s at stands. record { conn = stands.conn; began = stands.began; is_open = stands.is_open; stage = stands.stage; text = tt }) in
     record { each = subst (λ (ts : List Session). EachStands stands_for (all_slots after) ts) (as_it_was n ss) each; orderly = are.orderly; sealing = are.sealing }
 
@@ -251,3 +258,123 @@ pub next_whole : {T : Type 0} (before after : Slots T) (slot : Slot T) → all_s
 unfolding IsWhole
 next_whole {T = T} before after slot slots has whole =
     subst (λ (all : List (Slot T)). (n : ℕ) → HasTextAt (slice_get all n)) (sym slots) (whole_more (all_slots before) slot whole has)
+
+-- ---- a session is closed
+
+close_slot : {T : Type 0} (stands_for : T → Session → Type 0) (slot : Slot T) (s : Session) (stage : SlotStage) (is : slot.stage ≡ stage) → has_keys s ≡ true →
+    s.is_open ≡ true → SlotStands stands_for slot s → SlotStands stands_for (closed_slot slot stage) (closed s)
+close_slot stands_for slot s (kept.Opening k) is keyed opens stands = absurd (false≢true (sym (same_keys slot.stage s.stage stands.stage ∙ ap had_keys is) ∙ keyed))
+close_slot stands_for slot s (kept.Named k) is keyed opens stands = absurd (false≢true (sym (same_keys slot.stage s.stage stands.stage ∙ ap had_keys is) ∙ keyed))
+close_slot stands_for slot s (kept.Keyed k) is keyed opens stands = record {
+  conn = stands.conn;
+  began = stands.began;
+  is_open = refl;
+  stage = cipher_kept k s.stage (subst (λ kept. IsStage kept s.stage) is stands.stage);
+  text = tt;
+}
+  where
+    cipher_kept : (k : Keyed) (stage : sessions.Stage) → IsStage (kept.Keyed k) stage → IsStage (kept.Closed k.cipher) stage
+    cipher_kept k sessions.Opening at = absurd at
+    cipher_kept k sessions.Named at = absurd at
+    cipher_kept k (sessions.Keyed keys) at = at.1
+close_slot stands_for slot s (kept.Closed c) is keyed opens stands = absurd (false≢true (sym (ap is_open_stage is) ∙ stands.is_open ∙ opens))
+
+-- an open session with keys is closed, and the slots stand for that
+pub close_each : {T : Type 0} (stands_for : T → Session → Type 0) (before after : Slots T) (ss : List Session) (n : ℕ) →
+    Changes Close n before after → EachStands stands_for (all_slots before) ss → ((s : Session) → slice_get ss n ≡ Some s → (has_keys s ≡ true) × (s.is_open ≡ true)) →
+    EachStands stands_for (all_slots after) (changed_at n closed ss)
+close_each stands_for before after ss n changes each opens =
+    step_by stands_for before after ss n Close closed (slice_get (all_slots before) n) refl changes each
+    (λ slot s at stands. close_slot stands_for slot s slot.stage refl (opens s at).0 (opens s at).1 stands)
+
+closed_keeps : (s : Session) → Keeps closed s
+closed_keeps s = record { keyed = λ k. k; few = λ k. absurd (false≢true k) }
+
+-- the retired session is closed
+pub close_stands : {T : Type 0} (stands_for : T → Session → Type 0) (before after : Slots T) (p : Peer) (now n : ℕ) →
+    Changes Close n before after → retired p now ≡ Some n → SlotsStand stands_for before p.sessions → SlotsStand stands_for after (closed_in (retired p now) p.sessions)
+unfolding SlotsStand
+close_stands {T = T} stands_for before after p now n changes is are =
+    let one = retired_one p now n is in
+    let behind = retiring_before stands_for before p.sessions n are one.0 in
+    subst (λ (o : Option ℕ). SlotsStand stands_for after (closed_in o p.sessions)) (sym is) (record {
+      each = close_each stands_for before after p.sessions n changes are.each
+          (λ s at. (keyed_before_newest p.sessions n s are.orderly.keyed behind.1 at, sym (ap is_open_session at) ∙ one.1));
+      orderly = changed_orderly n closed p.sessions (λ s at. closed_keeps s) are.orderly;
+      sealing = still_open_beside n closed p.sessions (λ s at. refl)
+          (λ m last same. let next : suc n ≡ m = cc (behind.0, last) in absurd (omega (arith, next, same))) are.sealing;
+    })
+
+close_has : {T : Type 0} (slot : Slot T) (stage : SlotStage) → slot.stage ≡ stage → HasText (is_open_stage slot.stage) slot.text →
+    HasText (is_open_stage (closed_slot slot stage).stage) (closed_slot slot stage).text
+close_has slot (kept.Opening k) is has = has
+close_has slot (kept.Named k) is has = has
+close_has slot (kept.Keyed k) is has = refl
+close_has slot (kept.Closed c) is has = has
+
+close_by : {T : Type 0} (before after : Slots T) (n : ℕ) (o : Option (Slot T)) → slice_get (all_slots before) n ≡ o → Changes Close n before after → IsWhole before → IsWhole after
+unfolding IsWhole
+close_by {T = T} before after n (Some slot) is changes whole =
+    let has : HasTextAt (Some slot) = subst (λ (o : Option (Slot T)). HasTextAt o) is (whole n) in
+    subst (λ (slots : List (Slot T)). (m : ℕ) → HasTextAt (slice_get slots m)) (sym (changes.slot slot is))
+    (whole_still (all_slots before) n (applied Close slot) whole (close_has slot slot.stage refl has))
+close_by {T = T} before after n None is changes whole =
+    subst (λ (slots : Slots T). (m : ℕ) → HasTextAt (slice_get (all_slots slots) m)) (sym (changes.none is)) whole
+
+-- all texts are there
+pub close_whole : {T : Type 0} (before after : Slots T) (n : ℕ) → Changes Close n before after → IsWhole before → IsWhole after
+close_whole before after n changes whole = close_by before after n (slice_get (all_slots before) n) refl changes whole
+
+closing_gives : {T : Type 0} (slot : Slot T) (stage : SlotStage) → slot.stage ≡ stage → had_keys slot.stage ≡ true → is_open_stage slot.stage ≡ true →
+    HasText (is_open_stage slot.stage) slot.text → is_some (closed_text slot stage) ≡ true
+closing_gives slot (kept.Opening k) is keyed opens has = absurd (false≢true (sym (ap had_keys is) ∙ keyed))
+closing_gives slot (kept.Named k) is keyed opens has = absurd (false≢true (sym (ap had_keys is) ∙ keyed))
+closing_gives slot (kept.Keyed k) is keyed opens has = has ∙ opens
+closing_gives slot (kept.Closed c) is keyed opens has = absurd (false≢true (sym (ap is_open_stage is) ∙ opens))
+
+-- the session at a place is open and has keys
+abbrev pub IsOpenKeyedAt : Option Session → Type 0
+IsOpenKeyedAt None = ⊥
+IsOpenKeyedAt (Some s) = (has_keys s ≡ true) × (s.is_open ≡ true)
+
+gives_by : {T : Type 0} (stands_for : T → Session → Type 0) (before : Slots T) (ss : List Session) (n : ℕ) (o : Option (Slot T)) (q : Option Session) →
+    slice_get (all_slots before) n ≡ o → slice_get ss n ≡ q → BothAt stands_for o q → IsOpenKeyedAt q → HasTextAt o → is_some (given_at Close o) ≡ true
+gives_by stands_for before ss n (Some slot) (Some s) is at both opens has =
+    closing_gives slot slot.stage refl (sym (same_keys slot.stage s.stage both.stage) ∙ opens.0) (both.is_open ∙ opens.1) has
+gives_by stands_for before ss n None (Some s) is at both opens has = absurd both
+gives_by stands_for before ss n (Some slot) None is at both opens has = absurd opens
+gives_by stands_for before ss n None None is at both opens has = absurd opens
+
+-- its text is given when it is closed
+pub close_gives : {T : Type 0} (stands_for : T → Session → Type 0) (before : Slots T) (ss : List Session) (n : ℕ) → EachStands stands_for (all_slots before) ss →
+    IsWhole before → IsOpenKeyedAt (slice_get ss n) → is_some (given_at Close (slice_get (all_slots before) n)) ≡ true
+unfolding IsWhole
+close_gives stands_for before ss n each whole opens =
+    gives_by stands_for before ss n (slice_get (all_slots before) n) (slice_get ss n) refl refl (both_at stands_for (all_slots before) ss n each) opens (whole n)
+
+open_keyed_at : (ss : List Session) (n : ℕ) (q : Option Session) → slice_get ss n ≡ q → all_before_have_keys ss ≡ true → suc n < length ss →
+    is_open_session q ≡ true → IsOpenKeyedAt q
+open_keyed_at ss n None at keyed below opens = absurd (false≢true opens)
+open_keyed_at ss n (Some s) at keyed below opens = (keyed_before_newest ss n s keyed below at, opens)
+
+-- so is that of the retired one
+pub retired_gives : {T : Type 0} (stands_for : T → Session → Type 0) (before : Slots T) (p : Peer) (now n : ℕ) (result : Option T) →
+    result ≡ given_at Close (slice_get (all_slots before) n) → retired p now ≡ Some n → IsWhole before → SlotsStand stands_for before p.sessions →
+    is_some result ≡ is_some (retired p now)
+unfolding SlotsStand
+retired_gives stands_for before p now n result gave is whole are =
+    let one = retired_one p now n is in
+    let behind = retiring_before stands_for before p.sessions n are one.0 in
+    ap is_some gave ∙
+    close_gives stands_for before p.sessions n are.each whole
+        (open_keyed_at p.sessions n (slice_get p.sessions n) refl are.orderly.keyed behind.1 one.1) ∙
+    ap is_some (sym is)
+
+-- and it stands for it
+pub retired_text : {T : Type 0} (stands_for : T → Session → Type 0) (before : Slots T) (now tran n : ℕ) (result : Option T) →
+    result ≡ given_at Close (slice_get (all_slots before) n) → ((p : Peer) → SlotsStand stands_for before p.sessions → p.timers.tran ≡ tran → Some n ≡ retired p now) →
+    IfSome result (λ text. (p : Peer) (s : Session) → SlotsStand stands_for before p.sessions → p.timers.tran ≡ tran →
+        session_at p.sessions (retired p now) ≡ Some s → stands_for text s)
+retired_text stands_for before now tran n result gave is =
+    if_some result _ (λ text some p s are same at.
+        text_stands stands_for Close before p.sessions n text s (sym gave ∙ some) are (ap (session_at p.sessions) (is p are same) ∙ at))

@@ -11,6 +11,7 @@ use Rattle.key_sessions.specs.declared.slot.Newest.{Newest}
 use Rattle.peer_table.specs.KeySessions as sessions
 use Rattle.peer_table.specs.Places.{last_place}
 use Rattle.peer_table.specs.Peer.{Peer}
+use Rattle.peer_table.specs.Time.{is_open_session, retired, retired_if}
 use Rattle.peer_table.specs.Exchange.{cipher_in, cipher_of}
 use Rattle.key_sessions.specs.declared.slot.Slot.{Slot}
 use Rattle.key_sessions.specs.declared.slots.Slots.{Slots}
@@ -91,7 +92,8 @@ stands_at {T = T} stands_for slots ss n slot are is =
     some_at stands_for slot (slice_get ss n)
     (subst (λ (o : Option (Slot T)). BothAt stands_for o (slice_get ss n)) is (both_at stands_for (all_slots slots) ss n are.each))
 
-none_here : {T : Type 0} (stands_for : T → Session → Type 0) (o : Option Session) → BothAt stands_for None o → o ≡ None
+-- there is none where there is no slot
+pub none_here : {T : Type 0} (stands_for : T → Session → Type 0) (o : Option Session) → BothAt stands_for None o → o ≡ None
 none_here stands_for None at = refl
 none_here stands_for (Some s) at = absurd at
 
@@ -205,3 +207,43 @@ cipher_of_is p n is = sym (ap (λ (o : Option ℕ). cipher_in (session_at p.sess
 pub cipher_before : (p : Peer) → newest_usable p.sessions ≡ None → cipher_of p ≡ None
 unfolding cipher_of
 cipher_before p is = ap (λ (o : Option ℕ). cipher_in (session_at p.sessions o)) is
+
+-- ---- the retired session
+
+-- which one it is, from what is told of the one before the last with keys
+pub retired_is : (p : Peer) (now : ℕ) (n : Option ℕ) (is_open usable : Bool) → n ≡ retiring p.sessions → is_open ≡ is_open_session (session_at p.sessions n) →
+    usable ≡ in_transition p.timers now p.sessions → retired_if n is_open usable ≡ retired p now
+unfolding retired
+retired_is p now n is_open usable is opens uses = rw opens (rw uses (rw is refl))
+
+that_before : (o : Option ℕ) (n : ℕ) → number_before_that o ≡ Some n → o ≡ Some (suc n)
+that_before None n is = absurd (none-some n is)
+that_before (Some zero) n is = absurd (none-some n is)
+that_before (Some (suc k)) n is = let same : k ≡ n = cc is in ap (λ m. Some (suc m)) same
+
+at_most : (b : Bool) (m n : ℕ) → number_if b m ≡ Some n → n ≤ m
+at_most true m n is = let same : m ≡ n = cc is in omega (arith, same)
+at_most false zero n is = absurd (none-some n is)
+at_most false (suc m) n is = let same : m ≡ n = cc is in omega (arith, same)
+
+-- behind the one before the last with keys the last one stands, and it is not the newest
+pub retiring_before : {T : Type 0} (stands_for : T → Session → Type 0) (slots : Slots T) (ss : List Session) (n : ℕ) → SlotsStand stands_for slots ss →
+    retiring ss ≡ Some n → (newest_usable ss ≡ Some (suc n)) × (suc n < length ss)
+unfolding SlotsStand
+retiring_before stands_for slots ss n are is =
+    let last = that_before (number_if (had_keys slots.newest.stage) (length slots.earlier.items)) n (sym (retiring_is stands_for slots ss are) ∙ is) in
+    let below = at_most (had_keys slots.newest.stage) (length slots.earlier.items) (suc n) last in
+    (newest_usable_is stands_for slots ss are ∙ last, omega (arith, below, session_count stands_for slots ss are))
+
+retired_so : (o : Option ℕ) (is_open usable : Bool) (n : ℕ) → retired_if o is_open usable ≡ Some n → (o ≡ Some n) × (is_open ≡ true)
+retired_so None is_open usable n is = absurd (none-some n is)
+retired_so (Some m) true true n is = absurd (none-some n is)
+retired_so (Some m) true false n is = (is, refl)
+retired_so (Some m) false usable n is = absurd (none-some n is)
+
+-- the retired session is the one before the last with keys, and open
+pub retired_one : (p : Peer) (now n : ℕ) → retired p now ≡ Some n → (retiring p.sessions ≡ Some n) × (is_open_session (slice_get p.sessions n) ≡ true)
+unfolding retired
+retired_one p now n is =
+    let so = retired_so (retiring p.sessions) (is_open_session (session_at p.sessions (retiring p.sessions))) (in_transition p.timers now p.sessions) n is in
+    (so.0, ap (λ (o : Option ℕ). is_open_session (session_at p.sessions o)) (sym so.0) ∙ so.1)

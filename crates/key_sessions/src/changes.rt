@@ -1,7 +1,7 @@
 //! What changes the sessions of a client.
 
 ghost use Rattle.std.specs.Prelude.{◌≡◌, ◌+◌, ◌≤◌, ◌++◌, ◌∷◌, [], List, IfOk, IfErr, IfSome, IsOk, OnOk, OnErr, Some, is_some, slice_get};
-ghost use Rattle.peer_table.specs.KeySessions.{Session};
+ghost use Rattle.peer_table.specs.KeySessions.{Session, session_at};
 ghost use Rattle.peer_table.specs.Peer.{Peer};
 ghost use Rattle.peer_table.specs.Places.{changed_at};
 ghost use Rattle.peer_table.specs.Time.{is_open_session, retired};
@@ -89,5 +89,26 @@ impl<T: SessionText> Slots<T> {
     {
         let conn = conn_of(&text);
         let _ = self.change(number, Change::Put(text, conn));
+    }
+
+    /// Closes the session before the last with keys, and gives its text, exactly where that session is open and
+    /// may no longer be used.
+    #[tactic(auto, unfolding(crate::specs::Slots::newest_number))]
+    pub fn close_retired(&mut self, now: Moment, tran: u32) -> Option<T>
+        requires { IsWhole self.old }
+        ensures some { (p : Peer) → SlotsStand T.stands_for self.old p.sessions → p.timers.tran ≡ tran → is_some result ≡ is_some (retired p now.0) }
+        ensures text { IfSome result (λ text. (p : Peer) (s : Session) → SlotsStand T.stands_for self.old p.sessions → p.timers.tran ≡ tran →
+            session_at p.sessions (retired p now.0) ≡ Some s → T.stands_for text s) }
+        ensures stands { (p : Peer) → SlotsStand T.stands_for self.old p.sessions → p.timers.tran ≡ tran →
+            SlotsStand T.stands_for self.new (closed_in (retired p now.0) p.sessions) }
+        ensures whole { IsWhole self.new }
+        ensures stage { newest_stage self.new ≡ newest_stage self.old }
+        ensures number { newest_number self.new ≡ newest_number self.old }
+        ensures room { room self.new ≡ room self.old }
+    {
+        match self.retired(now, tran) {
+            None => None,
+            Some(number) => self.change(number, Change::Close),
+        }
     }
 }

@@ -7,6 +7,7 @@ ghost use Rattle.peer_table.specs.EngineAnswers.{open_with};
 ghost use Rattle.peer_table.specs.Exchange.{cipher_in, cipher_of};
 ghost use Rattle.peer_table.specs.KeySessions.{Session, has_passed, in_transition, kid_of, live_with, newest_usable, open_numbers, retiring, session_at, usable_of, usable_with, with_kid};
 ghost use Rattle.peer_table.specs.Peer.{Peer};
+ghost use Rattle.peer_table.specs.Time.{is_open_session, retired, retired_if};
 ghost use Rattle.key_sessions.specs.Looks.{began_of, keyed_with, keys_of_some, listed, listed_at, newest_seen, seen_as, seen_at};
 ghost use Rattle.key_sessions.specs.Slots.{LastIsOpen, SlotStands, SlotsStand, newest_number, newest_stage};
 ghost use Rattle.key_sessions.specs.internal.Numbers.{number_before_that};
@@ -173,6 +174,40 @@ impl<T: SessionText> Slots<T> {
         }
     }
 
+    /// The session that is to be closed now: the one before the last with keys, where it is open and may no
+    /// longer be used.
+    #[tactic(auto, using(crate::proofs::Usable::retired_is))]
+    pub fn retired(&self, now: Moment, tran: u32) -> Option<u64>
+        ensures { (p : Peer) → SlotsStand T.stands_for self.now p.sessions → p.timers.tran ≡ tran → result ≡ retired p now.0 }
+    {
+        let retiring = self.retiring();
+        retired_if(
+            retiring,
+            self.is_open_at(retiring),
+            self.in_transition(now, tran),
+        )
+    }
+
+    // Whether a session that may be there is open.
+    fn is_open_at(&self, number: Option<u64>) -> bool
+        ensures { (ss : List Session) → SlotsStand T.stands_for self.now ss → result ≡ is_open_session (session_at ss number) }
+    {
+        match number {
+            None => false,
+            Some(number) => self.is_open(number),
+        }
+    }
+
+    /// Whether there is an open session of this number.
+    pub fn is_open(&self, number: u64) -> bool
+        ensures { (ss : List Session) → SlotsStand T.stands_for self.now ss → result ≡ is_open_session (slice_get ss number) }
+    {
+        match self.slot(number) {
+            None => false,
+            Some(slot) => slot.stage.is_open(),
+        }
+    }
+
     // When the session of a number began.
     fn began(&self, number: u64) -> Option<Moment>
         ensures { (ss : List Session) → SlotsStand T.stands_for self.now ss → result ≡ began_of (slice_get ss number) }
@@ -247,6 +282,16 @@ fn with_kid(kid: u8, last: Option<u64>, older: Option<u64>, still: bool) -> Opti
     }
     match older {
         Some(older) if still && kid_of(older) == kid => Some(older),
+        _ => None,
+    }
+}
+
+// The one before the last with keys, where it is open and may no longer be used.
+fn retired_if(retiring: Option<u64>, is_open: bool, usable: bool) -> Option<u64>
+    ensures { result ≡ retired_if retiring is_open usable }
+{
+    match retiring {
+        Some(number) if is_open && !usable => Some(number),
         _ => None,
     }
 }
