@@ -7,3 +7,4 @@ mod Listed
 mod Sets
 mod Orders
 mod Steps
+mod Restages

@@ -3,7 +3,8 @@ use Rattle.std.proofs.Common.{◌≡◌, ℕ, zero, suc, ◌+◌, ◌<◌, Bool,
 use Rattle.std.specs.Prelude.{slice_get, ◌==◌, ◌&&◌, cond}
 use Rattle.std.specs.List.{find}
 use Rattle.peer_table.specs.KeySessions.{Session, kid_of, with_kid}
-use Rattle.peer_table.specs.Places.{before_if, places_from, first_place, earlier}
+use Rattle.peer_table.specs.Exchange.{oldest_of}
+use Rattle.peer_table.specs.Places.{before_if, places_from}
 use Rattle.key_sessions.specs.declared.slot.Slot.{Slot}
 use Rattle.key_sessions.specs.declared.slot.Which.{Which}
 use Rattle.key_sessions.specs.internal.Numbers.{counted_down, picks, picks_at}
@@ -85,3 +86,19 @@ kid_passed w slots n kid e =
 pub kid_at_last : {T : Type 0} (w : Which) (slots : List (Slot T)) (slot : Slot T) (n kid : ℕ) → n ≡ length slots →
     (picks_at w (slice_get (slots ++ slot ∷ []) n) && (kid_of n == kid)) ≡ false → with_kid kid (places_from (picks w) n (drop n (slots ++ slot ∷ []))) ≡ None
 kid_at_last w slots slot n kid is e = rw (last_step w slots slot n is) (miss (picks_at w (slice_get (slots ++ slot ∷ []) n)) n kid [] e)
+
+-- ---- the oldest of three
+
+-- where there is a third, the oldest is the first
+pub oldest : (ns : List ℕ) (n : ℕ) → slice_get ns 2 ≡ Some n → slice_get ns 0 ≡ oldest_of ns
+oldest [] n is = absurd (none-some n is)
+oldest (a ∷ []) n is = absurd (none-some n is)
+oldest (a ∷ b ∷ []) n is = absurd (none-some n is)
+oldest (a ∷ b ∷ c ∷ more) n is = refl
+
+-- where there is no third, none is too old
+pub no_oldest : (ns : List ℕ) → slice_get ns 2 ≡ None → oldest_of ns ≡ None
+no_oldest [] is = refl
+no_oldest (a ∷ []) is = refl
+no_oldest (a ∷ b ∷ []) is = refl
+no_oldest (a ∷ b ∷ c ∷ more) is = absurd (none-some c (sym is))

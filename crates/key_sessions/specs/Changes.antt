@@ -27,3 +27,7 @@ pub record KeepsPlace (change : Session → Session) (s : Session) : Type 0 wher
   pub began : (change s).began ≡ s.began
   pub is_open : (change s).is_open ≡ s.is_open
   pub stage : (change s).stage ≡ s.stage
+
+-- the newest session has these keys, and one session too many is closed
+unfoldable pub exchanged_in : Keys → List Session → List Session
+exchanged_in keys ss = closed_in (one_too_many (newest_keyed keys ss)) (newest_keyed keys ss)

@@ -1,20 +1,26 @@
 //! What changes the sessions of a client.
 
-ghost use Rattle.std.specs.Prelude.{◌≡◌, ◌+◌, ◌≤◌, ◌++◌, ◌∷◌, [], List, IfOk, IfErr, IfSome, IsOk, OnOk, OnErr, Some, is_some, slice_get};
+ghost use Rattle.std.specs.Prelude.{◌≡◌, ◌≢◌, ◌+◌, ◌≤◌, ◌++◌, ◌∷◌, [], List, IfOk, IfErr, IfSome, IsOk, OnOk, OnErr, Some, None, MatchResult, is_some, slice_get};
+ghost use Rattle.std.specs.Option.{option_copied};
+ghost use Rattle.vpn_base.specs.declared.errors.Or.TheVariants.{Memory, Why};
+ghost use Rattle.peer_table.specs.EngineAnswers.{kept_name};
+ghost use Rattle.key_sessions.specs.Names.{name_fault};
+ghost use Rattle.key_sessions.specs.declared.name.NameFault.{NameFault};
 ghost use Rattle.peer_table.specs.KeySessions.{Session, session_at};
 ghost use Rattle.peer_table.specs.Peer.{Peer};
 ghost use Rattle.peer_table.specs.Places.{changed_at};
 ghost use Rattle.peer_table.specs.Time.{is_open_session, retired};
-ghost use Rattle.key_sessions.specs.Changes.{KeepsPlace, closed_in};
+ghost use Rattle.key_sessions.specs.Changes.{KeepsPlace, closed_in, newest_named};
 ghost use Rattle.key_sessions.specs.Sessions.{OpeningStands};
 ghost use Rattle.key_sessions.specs.Slots.{IsWhole, IsWholeBut, SlotsStand, all_slots, newest_number, newest_stage, room};
 ghost use Rattle.key_sessions.specs.declared.slot.Stage.TheVariants as stages;
 
-use crate::session::{KeySession, Opening};
-use crate::slot::{Change, slot_of};
+use crate::name::{NameFault, judge_name};
+use crate::session::{KeySession, Named, Opening};
+use crate::slot::{Change, SlotStage, slot_of};
 use crate::slots::Slots;
 use crate::text::{SessionText, conn_of};
-use vpn_base::{Moment, NoMemory};
+use vpn_base::{Moment, NoMemory, Or};
 
 impl<T: SessionText> Slots<T> {
     /// Takes the room for one more session.
@@ -109,6 +115,31 @@ impl<T: SessionText> Slots<T> {
         match self.retired(now, tran) {
             None => None,
             Some(number) => self.change(number, Change::Close),
+        }
+    }
+
+    /// The other end's name of the newest session is known, which has to be at its beginning. The name, as it
+    /// is kept, is judged as `KeySession::named` judges it, and nothing changes where it is refused. It takes
+    /// no memory.
+    #[tactic(auto, unfolding(crate::specs::Slots::newest_number, crate::specs::Slots::newest_stage, crate::specs::Slots::room))]
+    pub fn name_newest(&mut self, name: &[u8], known: Option<&[u8]>) -> Result<(), Or<NameFault>>
+        requires { newest_stage self.old ≡ stages.Opening }
+        ensures named { OnOk result ((ss : List Session) → SlotsStand T.stands_for self.old ss → SlotsStand T.stands_for self.new (newest_named ss)) }
+        ensures judged { MatchResult result (λ _. name_fault (kept_name name.now) (option_copied known.entry) ≡ None)
+            (λ refused. (fault : NameFault) → refused ≡ Why fault → name_fault (kept_name name.now) (option_copied known.entry) ≡ Some fault) }
+        ensures refused { IfErr result (λ refused. refused ≢ Memory) }
+        ensures kept { OnErr result (self.new ≡ self.old) }
+        ensures stage { OnOk result (newest_stage self.new ≡ stages.Named) }
+        ensures whole { IsWhole self.old → IsWhole self.new }
+        ensures number { newest_number self.new ≡ newest_number self.old }
+        ensures room { room self.new ≡ room self.old }
+    {
+        match judge_name(name, known) {
+            Ok(name) => {
+                self.newest.stage = SlotStage::Named(Named::of(name));
+                Ok(())
+            }
+            Err(fault) => Err(Or::Why(fault)),
         }
     }
 }

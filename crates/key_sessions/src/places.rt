@@ -1,6 +1,8 @@
 //! Sessions that are looked for among all slots.
 
 ghost use Rattle.std.specs.Prelude.{◌≡◌, ◌&&◌, ◌==◌, slice_get};
+ghost use Rattle.peer_table.specs.Exchange.{oldest_of};
+ghost use Rattle.key_sessions.specs.declared.slot.Which.TheVariants as which;
 ghost use Rattle.peer_table.specs.KeySessions.{kid_of, with_kid};
 ghost use Rattle.peer_table.specs.Places.{places_from};
 ghost use Rattle.key_sessions.specs.Slots.{all_slots};
@@ -44,6 +46,17 @@ impl<T> Slots<T> {
         match count_down(self.picks_at(which, newest), left) {
             None => Some(newest),
             Some(_) => None,
+        }
+    }
+
+    // The oldest open session with keys, where three or more are open.
+    #[tactic(auto, using(crate::proofs::Walks::oldest, crate::proofs::Walks::no_oldest))]
+    pub(crate) fn one_too_many(&self) -> Option<u64>
+        ensures { result ≡ oldest_of (places_from (picks which.OpenKeyed) 0 (all_slots self.now)) }
+    {
+        match self.nth(Which::OpenKeyed, 2) {
+            None => None,
+            Some(_) => self.nth(Which::OpenKeyed, 0),
         }
     }
 

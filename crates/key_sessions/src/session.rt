@@ -36,6 +36,26 @@ pub struct Keyed {
     cipher: Cipher,
 }
 
+impl Named {
+    // The stage of this name.
+    pub(crate) fn of(name: Name) -> Named
+        ensures { result.name ≡ name }
+    {
+        Named { name }
+    }
+
+    // The same once there are keys.
+    pub(crate) fn keyed(self, keys: KeyBlock, cipher: Cipher) -> Keyed
+        ensures { result ≡ record { name = self.name; keys = keys; cipher = cipher } }
+    {
+        Keyed {
+            name: self.name,
+            keys,
+            cipher,
+        }
+    }
+}
+
 impl Keyed {
     // The block of all keys.
     pub(crate) fn keys(&self) -> &KeyBlock
@@ -198,11 +218,7 @@ impl<T: SessionText> KeySession<T, Named> {
             text: self.text,
             number: self.number,
             began: self.began,
-            stage: Keyed {
-                name: self.stage.name,
-                keys,
-                cipher,
-            },
+            stage: self.stage.keyed(keys, cipher),
         })
     }
 }

@@ -7,7 +7,7 @@ ghost use Rattle.peer_table.specs.KeySessions as sessions;
 ghost use Rattle.key_sessions.specs.Sessions.{OpeningStands, keys_shown};
 ghost use Rattle.key_sessions.specs.Slots.{HasText, IsStage, SlotStands, is_keyed_stage, is_open_stage, stage_seen};
 ghost use Rattle.key_sessions.specs.internal.Numbers.{had_keys, picks};
-ghost use Rattle.key_sessions.specs.internal.Steps.{applied, closed_slot, closed_text, given, text_if};
+ghost use Rattle.key_sessions.specs.internal.Steps.{applied, closed_slot, closed_text, given, keyed_stage, text_if};
 ghost use Rattle.key_sessions.specs.declared.slot.SlotStage.TheVariants as kept;
 
 use hmac_kit::KeyBlock;
@@ -149,6 +149,16 @@ impl Which {
 }
 
 impl SlotStage {
+    // A session with a name has keys.
+    pub(crate) fn keyed(self, keys: KeyBlock, cipher: Cipher) -> SlotStage
+        ensures { result ≡ keyed_stage keys cipher self }
+    {
+        match self {
+            SlotStage::Named(named) => SlotStage::Keyed(named.keyed(keys, cipher)),
+            other => other,
+        }
+    }
+
     // Whether the session is open.
     pub(crate) fn is_open(&self) -> bool
         ensures { result ≡ is_open_stage self.now }

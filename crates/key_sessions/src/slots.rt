@@ -6,15 +6,17 @@ ghost use Rattle.peer_table.specs.KeySessions.{Session};
 ghost use Rattle.key_sessions.specs.Sessions.{OpeningStands};
 ghost use Rattle.key_sessions.specs.Slots.{IsWhole, all_slots, SlotsStand, newest_number, newest_stage, room};
 ghost use Rattle.key_sessions.specs.internal.Numbers.{had_keys, number_before, number_if};
-ghost use Rattle.key_sessions.specs.internal.Steps.{applied, given_at};
+ghost use Rattle.key_sessions.specs.internal.Steps.{applied, given_at, keyed_stage};
 ghost use Rattle.key_sessions.specs.declared.slot.Slot.{Slot};
 ghost use Rattle.key_sessions.specs.declared.slot.Stage.TheVariants as stages;
 
 use crate::session::{KeySession, Opening};
-use crate::slot::{Change, Slot, slot_of};
+use crate::slot::{Change, Slot, SlotStage, slot_of};
+use hmac_kit::KeyBlock;
 use crate::text::SessionText;
 use std::alloc::Global;
 use std::mem;
+use vpn_base::Cipher;
 
 /// All key sessions of one client: the newest, and the list of all before it. A closed one loses its text
 /// and keeps its number.
@@ -80,6 +82,15 @@ impl<T> Slots<T> {
 }
 
 impl<T: Drop> Slots<T> {
+    // The newest session has keys.
+    pub(crate) fn set_keys(&mut self, keys: KeyBlock, cipher: Cipher)
+        ensures earlier { self.new.earlier ≡ self.old.earlier }
+        ensures newest { self.new.newest ≡ record self.old.newest { stage = keyed_stage keys cipher self.old.newest.stage } }
+    {
+        let stage = mem::replace(&mut self.newest.stage, SlotStage::Opening(Opening));
+        self.newest.stage = stage.keyed(keys, cipher);
+    }
+
     // One more slot, behind all others.
     #[tactic(auto, unfolding(crate::specs::Slots::room))]
     pub(crate) fn push(&mut self, slot: Slot<T>)

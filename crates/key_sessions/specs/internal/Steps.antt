@@ -1,9 +1,11 @@
 -- One change of one slot.
 use Rattle.std.specs.Prelude.{Bool, true, false, Option, Some, None}
 use Rattle.key_sessions.specs.Slots.{is_open_stage}
+use Rattle.vpn_base.specs.declared.names.Cipher.{Cipher}
+use Rattle.hmac_kit.specs.declared.derivation.KeyBlock.{KeyBlock}
 use Rattle.key_sessions.specs.declared.slot.Slot.{Slot}
 use Rattle.key_sessions.specs.declared.slot.SlotStage.{SlotStage}
-use Rattle.key_sessions.specs.declared.slot.SlotStage.TheVariants.{Keyed, Closed}
+use Rattle.key_sessions.specs.declared.slot.SlotStage.TheVariants.{Named, Keyed, Closed}
 use Rattle.key_sessions.specs.declared.slot.Change.{Change}
 use Rattle.key_sessions.specs.declared.slot.Change.TheVariants.{Take, Put, Close}
 
@@ -38,3 +40,8 @@ given Close slot = closed_text slot slot.stage
 abbrev pub given_at : {T : Type 0} → Change T → Option (Slot T) → Option T
 given_at change None = None
 given_at change (Some slot) = given change slot
+
+-- the stage of a session with a name, once it has keys
+abbrev pub keyed_stage : KeyBlock → Cipher → SlotStage → SlotStage
+keyed_stage keys cipher (Named k) = Keyed (record { name = k.name; keys = keys; cipher = cipher })
+keyed_stage keys cipher stage = stage
