@@ -8,3 +8,5 @@ mod Sets
 mod Orders
 mod Steps
 mod Restages
+mod Exchanges
+mod Exchanged

@@ -116,6 +116,10 @@ unfolding moved
 unmoved None = refl
 unmoved (Some k) = ap Some (let same : k + 0 ≡ k = omega arith in same)
 
+-- the first place is the first of all places
+pub first_of_all : (p : Session → Bool) (ss : List Session) → slice_get (places_from p 0 ss) 0 ≡ first_place p ss
+first_of_all p ss = first_is p ss 0 ∙ unmoved (first_place p ss)
+
 -- the open session on a connection
 pub open_with_is : {T : Type 0} (stands_for : T → Session → Type 0) (slots : Slots T) (conn : Conn) (p : Peer) → SlotsStand stands_for slots p.sessions →
     slice_get (places_from (picks (which.On conn)) 0 (all_slots slots)) 0 ≡ open_with conn p

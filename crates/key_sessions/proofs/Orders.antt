@@ -28,7 +28,8 @@ both {a = false} {b = b} e = absurd (false≢true e)
 pair : {a b : Bool} → a ≡ true → b ≡ true → (a && b) ≡ true
 pair {a = a} {b = b} e h = rw e h
 
-changed_keyed : (n : ℕ) (f : Session → Session) (ss : List Session) → ((s : Session) → slice_get ss n ≡ Some s → has_keys s ≡ true → has_keys (f s) ≡ true) →
+-- who has keys keeps them
+pub changed_keyed : (n : ℕ) (f : Session → Session) (ss : List Session) → ((s : Session) → slice_get ss n ≡ Some s → has_keys s ≡ true → has_keys (f s) ≡ true) →
     all_before_have_keys ss ≡ true → all_before_have_keys (changed_at n f ss) ≡ true
 changed_keyed n f [] keeps k = refl
 changed_keyed zero f (s ∷ []) keeps k = refl

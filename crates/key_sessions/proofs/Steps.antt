@@ -378,3 +378,20 @@ pub retired_text : {T : Type 0} (stands_for : T → Session → Type 0) (before 
 retired_text stands_for before now tran n result gave is =
     if_some result _ (λ text some p s are same at.
         text_stands stands_for Close before p.sessions n text s (sym gave ∙ some) are (ap (session_at p.sessions) (is p are same) ∙ at))
+
+each_by : {T : Type 0} (stands_for : T → Session → Type 0) (change : Change T) (slots : Slots T) (ss : List Session) (n : ℕ) (text : T) (s : Session)
+    (o : Option (Slot T)) (q : Option Session) → BothAt stands_for o q → given_at change o ≡ Some text → q ≡ Some s → stands_for text s
+each_by {T = T} stands_for change slots ss n text s (Some slot) (Some t) both gave at =
+    let same : t ≡ s = cc at in given_stands stands_for change slot text s gave (subst (SlotStands stands_for slot) same both)
+each_by stands_for change slots ss n text s (Some slot) None both gave at = absurd both
+each_by stands_for change slots ss n text s None q both gave at = absurd (none-some text gave)
+
+-- the text that is given stands for its session
+pub answer_each : {T : Type 0} (stands_for : T → Session → Type 0) (change : Change T) (slots : Slots T) (ss : List Session) (n : ℕ) (text : T) (s : Session) →
+    EachStands stands_for (all_slots slots) ss → given_at change (slice_get (all_slots slots) n) ≡ Some text → slice_get ss n ≡ Some s → stands_for text s
+answer_each stands_for change slots ss n text s each gave at =
+    each_by stands_for change slots ss n text s (slice_get (all_slots slots) n) (slice_get ss n) (both_at stands_for (all_slots slots) ss n each) gave at
+
+-- the same of an answer, over all that it may stand for
+pub answers_so : {T : Type 0} (result : Option T) (P : T → Type 0) → ((text : T) → result ≡ Some text → P text) → IfSome result P
+answers_so result P each = if_some result P each

@@ -1,7 +1,7 @@
 -- What the calls of the slots make of the list of all sessions of a client.
 use Rattle.std.specs.Prelude.{◌≡◌, ℕ, Bool, List, [], ◌∷◌, ◌++◌, Option, Some, None, slice_get}
 use Rattle.peer_table.specs.Places.{changed_at, places_from}
-use Rattle.peer_table.specs.KeySessions.{Keyed, Keys, Named, Session, closed, newest}
+use Rattle.peer_table.specs.KeySessions.{Keyed, Keys, Named, Session, closed, newest, session_at}
 use Rattle.peer_table.specs.Exchange.{is_open_keyed, oldest_of}
 use Rattle.key_sessions.specs.Sessions.{restaged}
 
@@ -21,6 +21,10 @@ newest_keyed keys ss = changed_at (newest ss) (restaged (Keyed keys)) ss
 -- the oldest open session with keys, where three or more are open
 unfoldable pub one_too_many : List Session → Option ℕ
 one_too_many ss = oldest_of (places_from is_open_keyed 0 ss)
+
+-- that session
+unfoldable pub one_closed : List Session → Option Session
+one_closed ss = session_at ss (one_too_many ss)
 
 -- a change of a session that leaves alone what the slots keep of it
 pub record KeepsPlace (change : Session → Session) (s : Session) : Type 0 where

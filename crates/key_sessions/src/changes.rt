@@ -1,26 +1,29 @@
 //! What changes the sessions of a client.
 
-ghost use Rattle.std.specs.Prelude.{◌≡◌, ◌≢◌, ◌+◌, ◌≤◌, ◌++◌, ◌∷◌, [], List, IfOk, IfErr, IfSome, IsOk, OnOk, OnErr, Some, None, MatchResult, is_some, slice_get};
+ghost use Rattle.std.specs.Prelude.{◌≡◌, ◌≢◌, ◌+◌, ◌≤◌, ◌++◌, ◌∷◌, [], ℕ, List, is_ok, IsSome, IfOk, IfErr, IfSome, IsOk, OnOk, OnErr, Some, None, MatchResult, is_some, slice_get};
 ghost use Rattle.std.specs.Option.{option_copied};
 ghost use Rattle.vpn_base.specs.declared.errors.Or.TheVariants.{Memory, Why};
 ghost use Rattle.peer_table.specs.EngineAnswers.{kept_name};
 ghost use Rattle.key_sessions.specs.Names.{name_fault};
 ghost use Rattle.key_sessions.specs.declared.name.NameFault.{NameFault};
 ghost use Rattle.peer_table.specs.KeySessions.{Session, session_at};
+ghost use Rattle.vpn_base.specs.declared.names.Cipher.{Cipher};
+ghost use Rattle.peer_table.specs.Exchange.{chosen};
 ghost use Rattle.peer_table.specs.Peer.{Peer};
 ghost use Rattle.peer_table.specs.Places.{changed_at};
 ghost use Rattle.peer_table.specs.Time.{is_open_session, retired};
-ghost use Rattle.key_sessions.specs.Changes.{KeepsPlace, closed_in, newest_named};
-ghost use Rattle.key_sessions.specs.Sessions.{OpeningStands};
+ghost use Rattle.key_sessions.specs.Changes.{KeepsPlace, closed_in, exchanged_in, newest_keyed, newest_named, one_closed, one_too_many};
+ghost use Rattle.key_sessions.specs.Sessions.{OpeningStands, keys_made};
 ghost use Rattle.key_sessions.specs.Slots.{IsWhole, IsWholeBut, SlotsStand, all_slots, newest_number, newest_stage, room};
 ghost use Rattle.key_sessions.specs.declared.slot.Stage.TheVariants as stages;
 
 use crate::name::{NameFault, judge_name};
-use crate::session::{KeySession, Named, Opening};
+use crate::session::{KeySession, Named, NoCipher, Opening, cipher_chosen, make_block};
 use crate::slot::{Change, SlotStage, slot_of};
 use crate::slots::Slots;
 use crate::text::{SessionText, conn_of};
-use vpn_base::{Moment, NoMemory, Or};
+use key_method2::{Km2, Source};
+use vpn_base::{Moment, NoMemory, Or, Policy, Sid};
 
 impl<T: SessionText> Slots<T> {
     /// Takes the room for one more session.
@@ -140,6 +143,91 @@ impl<T: SessionText> Slots<T> {
                 Ok(())
             }
             Err(fault) => Err(Or::Why(fault)),
+        }
+    }
+
+    /// The newest session has keys, which has to have a name and no keys yet: the key exchange of these two
+    /// messages, as `KeySession::keyed` makes it. Where three open sessions have keys then, the oldest is closed
+    /// and its text given. NoCipher comes exactly where the client's peer info offers no cipher of the policy;
+    /// nothing changes then. It takes no memory.
+    pub fn key_newest(
+        &mut self,
+        client: &Km2,
+        server: &Km2,
+        policy: &Policy,
+        client_sid: Sid,
+        server_sid: Sid,
+    ) -> Result<Option<T>, NoCipher>
+        requires stage { newest_stage self.old ≡ stages.Named }
+        requires pre { IsSome client.now.source.pre }
+        requires whole { IsWhole self.old }
+        ensures exchanged { OnOk result ((peer_id : ℕ) (cipher : Cipher) (ss : List Session) → chosen policy.now client.now.info ≡ Some cipher →
+            SlotsStand T.stands_for self.old ss →
+            SlotsStand T.stands_for self.new (exchanged_in (keys_made client.now.source server.now.source client_sid server_sid cipher peer_id) ss)) }
+        ensures some { IfOk result (λ text. (peer_id : ℕ) (cipher : Cipher) (ss : List Session) → chosen policy.now client.now.info ≡ Some cipher →
+            SlotsStand T.stands_for self.old ss →
+            is_some text ≡ is_some (one_too_many (newest_keyed (keys_made client.now.source server.now.source client_sid server_sid cipher peer_id) ss))) }
+        ensures text { IfOk result (λ given. IfSome given (λ text. (peer_id : ℕ) (cipher : Cipher) (ss : List Session) (s : Session) →
+            chosen policy.now client.now.info ≡ Some cipher → SlotsStand T.stands_for self.old ss →
+            one_closed (newest_keyed (keys_made client.now.source server.now.source client_sid server_sid cipher peer_id) ss) ≡ Some s → T.stands_for text s)) }
+        ensures judged { is_ok result ≡ is_some (chosen policy.now client.now.info) }
+        ensures kept { OnErr result (self.new ≡ self.old) }
+        ensures stage { OnOk result (newest_stage self.new ≡ stages.Keyed) }
+        ensures whole { IsWhole self.new }
+        ensures number { newest_number self.new ≡ newest_number self.old }
+        ensures room { room self.new ≡ room self.old }
+    {
+        self.exchange(
+            &client.source,
+            client.info.as_slice(),
+            &server.source,
+            policy,
+            client_sid,
+            server_sid,
+        )
+    }
+
+    /// The same from the parts of the messages that count: the source and the peer info of the client, and the
+    /// server's source.
+    #[tactic(auto, unfolding(crate::specs::Slots::newest_number, crate::specs::Slots::newest_stage, crate::specs::Slots::room))]
+    pub fn exchange(
+        &mut self,
+        client: &Source,
+        info: &[u8],
+        server: &Source,
+        policy: &Policy,
+        client_sid: Sid,
+        server_sid: Sid,
+    ) -> Result<Option<T>, NoCipher>
+        requires stage { newest_stage self.old ≡ stages.Named }
+        requires pre { IsSome client.now.pre }
+        requires whole { IsWhole self.old }
+        ensures exchanged { OnOk result ((peer_id : ℕ) (cipher : Cipher) (ss : List Session) → chosen policy.now info.now ≡ Some cipher →
+            SlotsStand T.stands_for self.old ss →
+            SlotsStand T.stands_for self.new (exchanged_in (keys_made client.now server.now client_sid server_sid cipher peer_id) ss)) }
+        ensures some { IfOk result (λ text. (peer_id : ℕ) (cipher : Cipher) (ss : List Session) → chosen policy.now info.now ≡ Some cipher →
+            SlotsStand T.stands_for self.old ss →
+            is_some text ≡ is_some (one_too_many (newest_keyed (keys_made client.now server.now client_sid server_sid cipher peer_id) ss))) }
+        ensures text { IfOk result (λ given. IfSome given (λ text. (peer_id : ℕ) (cipher : Cipher) (ss : List Session) (s : Session) →
+            chosen policy.now info.now ≡ Some cipher → SlotsStand T.stands_for self.old ss →
+            one_closed (newest_keyed (keys_made client.now server.now client_sid server_sid cipher peer_id) ss) ≡ Some s → T.stands_for text s)) }
+        ensures judged { is_ok result ≡ is_some (chosen policy.now info.now) }
+        ensures kept { OnErr result (self.new ≡ self.old) }
+        ensures stage { OnOk result (newest_stage self.new ≡ stages.Keyed) }
+        ensures whole { IsWhole self.new }
+        ensures number { newest_number self.new ≡ newest_number self.old }
+        ensures room { room self.new ≡ room self.old }
+    {
+        match cipher_chosen(policy, info) {
+            None => Err(NoCipher),
+            Some(cipher) => {
+                let keys = make_block(client, server, client_sid, server_sid);
+                self.set_keys(keys, cipher);
+                match self.one_too_many() {
+                    None => Ok(None),
+                    Some(number) => Ok(self.change(number, Change::Close)),
+                }
+            }
         }
     }
 }
