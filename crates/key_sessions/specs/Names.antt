@@ -1,14 +1,9 @@
 -- Common names of the other end: which are refused, and why.
-use Rattle.std.specs.Prelude.{ℕ, List, take, Option, Some, None, if◌then◌else◌}
+use Rattle.std.specs.Prelude.{ℕ, List, Option, Some, None, if◌then◌else◌}
 use Rattle.std.specs.Str.{bytes_eq}
 use Rattle.vpn_base.specs.FileName.{is_file_name}
 use Rattle.key_sessions.specs.declared.name.NameFault.{NameFault}
 use Rattle.key_sessions.specs.declared.name.NameFault.TheVariants.{BadName, NameChanged}
-use Rattle.key_sessions.specs.declared.name.Name.{Name}
-
--- the bytes of a name that is kept
-abbrev pub name_bytes : Name → List ℕ
-name_bytes name = take name.count name.bytes
 
 -- a name is to be the same as the one that is known, if one is
 abbrev pub fault_beside : List ℕ → Option (List ℕ) → Option NameFault

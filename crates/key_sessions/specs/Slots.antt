@@ -82,6 +82,15 @@ stage_seen (Closed cipher) = stages.Keyed
 unfoldable pub newest_stage : {T : Type 0} → Slots T → Stage
 newest_stage slots = stage_seen slots.newest.stage
 
+-- the name of the newest session, as it is kept
+abbrev pub name_of : SlotStage → Option (List ℕ)
+name_of (Opening k) = None
+name_of (Named k) = Some k.name
+name_of (Keyed k) = Some k.name
+name_of (Closed cipher) = None
+unfoldable pub newest_name : {T : Type 0} → Slots T → Option (List ℕ)
+newest_name slots = name_of slots.newest.stage
+
 -- the number of the newest session
 unfoldable pub newest_number : {T : Type 0} → Slots T → ℕ
 newest_number slots = length slots.earlier.items

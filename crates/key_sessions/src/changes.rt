@@ -14,7 +14,7 @@ ghost use Rattle.peer_table.specs.Places.{changed_at};
 ghost use Rattle.peer_table.specs.Time.{is_open_session, retired};
 ghost use Rattle.key_sessions.specs.Changes.{KeepsPlace, closed_in, exchanged_in, newest_keyed, newest_named, one_closed, one_too_many};
 ghost use Rattle.key_sessions.specs.Sessions.{OpeningStands, keys_made};
-ghost use Rattle.key_sessions.specs.Slots.{IsWhole, IsWholeBut, SlotsStand, all_slots, newest_number, newest_stage, room};
+ghost use Rattle.key_sessions.specs.Slots.{IsWhole, IsWholeBut, SlotsStand, newest_name, newest_number, newest_stage, room};
 ghost use Rattle.key_sessions.specs.declared.slot.Stage.TheVariants as stages;
 
 use crate::name::{NameFault, judge_name};
@@ -124,12 +124,13 @@ impl<T: SessionText> Slots<T> {
     /// The other end's name of the newest session is known, which has to be at its beginning. The name, as it
     /// is kept, is judged as `KeySession::named` judges it, and nothing changes where it is refused. It takes
     /// no memory.
-    #[tactic(auto, unfolding(crate::specs::Slots::newest_number, crate::specs::Slots::newest_stage, crate::specs::Slots::room))]
+    #[tactic(auto, unfolding(crate::specs::Slots::newest_name, crate::specs::Slots::newest_number, crate::specs::Slots::newest_stage, crate::specs::Slots::room))]
     pub fn name_newest(&mut self, name: &[u8], known: Option<&[u8]>) -> Result<(), Or<NameFault>>
         requires { newest_stage self.old ≡ stages.Opening }
         ensures named { OnOk result ((ss : List Session) → SlotsStand T.stands_for self.old ss → SlotsStand T.stands_for self.new (newest_named ss)) }
         ensures judged { MatchResult result (λ _. name_fault (kept_name name.now) (option_copied known.entry) ≡ None)
             (λ refused. (fault : NameFault) → refused ≡ Why fault → name_fault (kept_name name.now) (option_copied known.entry) ≡ Some fault) }
+        ensures name { OnOk result (newest_name self.new ≡ Some (kept_name name.now)) }
         ensures refused { IfErr result (λ refused. refused ≢ Memory) }
         ensures kept { OnErr result (self.new ≡ self.old) }
         ensures stage { OnOk result (newest_stage self.new ≡ stages.Named) }

@@ -9,7 +9,7 @@ ghost use Rattle.peer_table.specs.KeySessions.{Session, has_passed, in_transitio
 ghost use Rattle.peer_table.specs.Peer.{Peer};
 ghost use Rattle.peer_table.specs.Time.{is_open_session, retired, retired_if};
 ghost use Rattle.key_sessions.specs.Looks.{began_of, keyed_with, keys_of_some, listed, listed_at, newest_seen, seen_as, seen_at};
-ghost use Rattle.key_sessions.specs.Slots.{LastIsOpen, SlotStands, SlotsStand, newest_number, newest_stage};
+ghost use Rattle.key_sessions.specs.Slots.{LastIsOpen, SlotStands, SlotsStand, newest_name, newest_number, newest_stage};
 ghost use Rattle.key_sessions.specs.internal.Numbers.{number_before_that};
 
 use crate::session::kid_of;
@@ -21,6 +21,14 @@ use peer_table::at_most_three_are_open;
 use vpn_base::{Cipher, Conn, Moment};
 
 impl<T: SessionText> Slots<T> {
+    /// The other end's name in the newest session, as it is kept; None exactly before it is known there.
+    #[tactic(auto, unfolding(crate::specs::Slots::newest_name))]
+    pub fn name(&self) -> Option<&[u8]>
+        ensures { option_copied result ≡ newest_name self.now }
+    {
+        self.newest.stage.name()
+    }
+
     /// The last session that has keys; None exactly before the first key exchange.
     #[tactic(auto, using(crate::proofs::Usable::newest_usable_is, crate::proofs::Usable::last_is_open))]
     pub fn newest_usable(&self) -> Option<u64>

@@ -1,12 +1,13 @@
 //! The common name of the other end.
 
-ghost use Rattle.std.specs.Prelude.{◌≡◌, ◌≤◌, ◌<◌, length, take, is_ok, Some, None, MatchResult, if◌then◌else◌};
+ghost use Rattle.std.specs.Prelude.{◌≡◌, ◌≤◌, length, Some, None, MatchResult, if◌then◌else◌};
 ghost use Rattle.std.specs.Option.{option_copied};
 ghost use Rattle.std.specs.Str.{bytes_eq};
 ghost use Rattle.vpn_base.specs.FileName.{is_file_name, is_name_byte};
 ghost use Rattle.peer_table.specs.EngineAnswers.{kept_name};
-ghost use Rattle.key_sessions.specs.Names.{fault_beside, name_bytes, name_fault};
+ghost use Rattle.key_sessions.specs.Names.{fault_beside, name_fault};
 
+use std::marker::Model;
 use vpn_base::file_name;
 
 /// Why a common name is refused.
@@ -21,18 +22,27 @@ pub enum NameFault {
 /// The most bytes of a name that can be that of a file.
 const LONGEST: usize = 64;
 
-/// A name that can be that of a file: the first `count` of the bytes.
+/// A name that can be that of a file, which contracts see as the list of its bytes.
 #[derive(Drop)]
 pub struct Name {
     bytes: [u8; LONGEST],
     count: u8,
 }
 
+impl Model for Name {
+    ghost use Rattle.std.specs.Prelude.{ℕ, ◌≤◌, List, take};
+
+    ghost Value = { List ℕ };
+
+    ghost view = { λ name. take name.count name.bytes };
+
+    ghost invariant = { λ name. name.count ≤ 64 };
+}
+
 impl Name {
     // The bytes of the name.
     pub(crate) fn as_slice(&self) -> &[u8]
-        requires { self.now.count ≤ 64 }
-        ensures { result.now ≡ name_bytes self.now }
+        ensures { result.now ≡ self.now }
     {
         &self.bytes[..usize::from(self.count)]
     }
@@ -58,8 +68,7 @@ fn kept_byte(byte: u8) -> u8
 #[tactic(auto, using(crate::proofs::Names::kept_next))]
 fn keep(name: &[u8]) -> Name
     requires { length name.now ≤ 64 }
-    ensures kept { name_bytes result ≡ kept_name name.now }
-    ensures count { result.count ≤ 64 }
+    ensures { result ≡ kept_name name.now }
 {
     let mut bytes = [0; LONGEST];
     for i in 0..name.len() {
@@ -75,7 +84,7 @@ fn keep(name: &[u8]) -> Name
 #[tactic(auto, using(crate::proofs::Names::long_name), unfolding(crate::specs::Names::name_fault))]
 pub(crate) fn judge_name(name: &[u8], known: Option<&[u8]>) -> Result<Name, NameFault>
     ensures judged { MatchResult result
-        (λ kept. (name_fault (kept_name name.now) (option_copied known.entry) ≡ None) × (name_bytes kept ≡ kept_name name.now))
+        (λ kept. (name_fault (kept_name name.now) (option_copied known.entry) ≡ None) × (kept ≡ kept_name name.now))
         (λ fault. name_fault (kept_name name.now) (option_copied known.entry) ≡ Some fault) }
 {
     if name.len() > LONGEST {

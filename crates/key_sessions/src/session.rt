@@ -9,7 +9,7 @@ ghost use Rattle.peer_table.specs.Exchange.{block_of, chosen, cipher_in};
 ghost use Rattle.peer_table.specs.KeySessions.{Session, Stage, kid_of};
 ghost use Rattle.peer_table.specs.KeySessions as sessions;
 ghost use Rattle.key_sessions.specs.declared.name.NameFault.{NameFault};
-ghost use Rattle.key_sessions.specs.Names.{name_bytes, name_fault};
+ghost use Rattle.key_sessions.specs.Names.{name_fault};
 ghost use Rattle.key_sessions.specs.Sessions.{BeginsAt, KeyedStands, NamedStands, OpeningStands, keys_made, keys_shown, restaged};
 
 use crate::name::{Name, NameFault, judge_name};
@@ -44,6 +44,13 @@ impl Named {
         Named { name }
     }
 
+    // The name.
+    pub(crate) fn name(&self) -> &[u8]
+        ensures { result.now ≡ self.now.name }
+    {
+        self.name.as_slice()
+    }
+
     // The same once there are keys.
     pub(crate) fn keyed(self, keys: KeyBlock, cipher: Cipher) -> Keyed
         ensures { result ≡ record { name = self.name; keys = keys; cipher = cipher } }
@@ -62,6 +69,13 @@ impl Keyed {
         ensures { result.now ≡ self.now.keys }
     {
         &self.keys
+    }
+
+    // The name.
+    pub(crate) fn name(&self) -> &[u8]
+        ensures { result.now ≡ self.now.name }
+    {
+        self.name.as_slice()
     }
 
     // The cipher that they are for.
@@ -162,7 +176,7 @@ impl<T: SessionText> KeySession<T, Opening> {
         known: Option<&[u8]>,
     ) -> Result<KeySession<T, Named>, (KeySession<T, Opening>, Or<NameFault>)>
         ensures named { IfOk result (λ k. (s : Session) → OpeningStands T.stands_for self s → NamedStands T.stands_for k (restaged sessions.Named s)) }
-        ensures name { IfOk result (λ k. name_bytes k.stage.name ≡ kept_name name.now) }
+        ensures name { IfOk result (λ k. k.stage.name ≡ kept_name name.now) }
         ensures number { IfOk result (λ k. k.number ≡ self.number) }
         ensures judged { MatchResult result (λ _. name_fault (kept_name name.now) (option_copied known.entry) ≡ None)
             (λ refused. (fault : NameFault) → refused.1 ≡ Why fault → name_fault (kept_name name.now) (option_copied known.entry) ≡ Some fault) }
@@ -183,10 +197,9 @@ impl<T: SessionText> KeySession<T, Opening> {
 impl<T: SessionText> KeySession<T, Named> {
     /// The other end's name, as it is kept.
     pub fn name(&self) -> &[u8]
-        requires { self.now.stage.name.count ≤ 64 }
-        ensures { result.now ≡ name_bytes self.now.stage.name }
+        ensures { result.now ≡ self.now.stage.name }
     {
-        self.stage.name.as_slice()
+        self.stage.name()
     }
 
     /// The session has keys, from the sources of both ends, which have to have a pre-master secret of the
@@ -205,7 +218,7 @@ impl<T: SessionText> KeySession<T, Named> {
         ensures keyed { IfOk result (λ k. (peer_id : ℕ) (cipher : Cipher) (s : Session) → chosen policy.now client.now.info ≡ Some cipher →
             NamedStands T.stands_for self s → KeyedStands T.stands_for k
                 (restaged (sessions.Keyed (keys_made client.now.source server.now.source client_sid server_sid cipher peer_id)) s)) }
-        ensures name { IfOk result (λ k. name_bytes k.stage.name ≡ name_bytes self.stage.name) }
+        ensures name { IfOk result (λ k. k.stage.name ≡ self.stage.name) }
         ensures number { IfOk result (λ k. k.number ≡ self.number) }
         ensures judged { is_ok result ≡ is_some (chosen policy.now client.now.info) }
         ensures refused { IfErr result (λ refused. refused.0 ≡ self) }
@@ -224,6 +237,13 @@ impl<T: SessionText> KeySession<T, Named> {
 }
 
 impl<T: SessionText> KeySession<T, Keyed> {
+    /// The other end's name, as it is kept.
+    pub fn name(&self) -> &[u8]
+        ensures { result.now ≡ self.now.stage.name }
+    {
+        self.stage.name()
+    }
+
     /// The block of all keys.
     #[tactic(auto, unfolding(crate::specs::Sessions::KeyedStands))]
     pub fn keys(&self) -> &KeyBlock

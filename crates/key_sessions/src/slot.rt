@@ -1,11 +1,12 @@
 //! What is kept of one key session beside the others of its client.
 
 ghost use Rattle.std.specs.Prelude.{◌≡◌, Some, option_map};
+ghost use Rattle.std.specs.Option.{option_copied};
 ghost use Rattle.peer_table.specs.KeySessions.{Session};
 ghost use Rattle.peer_table.specs.Exchange.{cipher_in};
 ghost use Rattle.peer_table.specs.KeySessions as sessions;
 ghost use Rattle.key_sessions.specs.Sessions.{OpeningStands, keys_shown};
-ghost use Rattle.key_sessions.specs.Slots.{HasText, IsStage, SlotStands, is_keyed_stage, is_open_stage, stage_seen};
+ghost use Rattle.key_sessions.specs.Slots.{HasText, IsStage, SlotStands, is_keyed_stage, is_open_stage, name_of, stage_seen};
 ghost use Rattle.key_sessions.specs.internal.Numbers.{had_keys, picks};
 ghost use Rattle.key_sessions.specs.internal.Steps.{applied, closed_slot, closed_text, given, keyed_stage, text_if};
 ghost use Rattle.key_sessions.specs.declared.slot.SlotStage.TheVariants as kept;
@@ -216,6 +217,18 @@ impl SlotStage {
             SlotStage::Opening(_) => None,
             SlotStage::Named(_) => None,
             SlotStage::Keyed(keyed) => Some((keyed.keys(), keyed.cipher())),
+            SlotStage::Closed(_) => None,
+        }
+    }
+
+    // The name, while it is open.
+    pub(crate) fn name(&self) -> Option<&[u8]>
+        ensures { option_copied result ≡ name_of self.now }
+    {
+        match self {
+            SlotStage::Opening(_) => None,
+            SlotStage::Named(named) => Some(named.name()),
+            SlotStage::Keyed(keyed) => Some(keyed.name()),
             SlotStage::Closed(_) => None,
         }
     }
