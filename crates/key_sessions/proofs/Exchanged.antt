@@ -129,3 +129,21 @@ unfolding newest_stage
 keyed_whole block cipher before mid is named whole =
     let gets = gets_keys block cipher (record { block = block.0; cipher = cipher; peer_id = 0 }) before.newest.stage refl refl named in
     restaged_whole (keyed_stage block cipher before.newest.stage) before mid is (gets.is_open ∙ sym gets.was_open) whole
+
+one_there : (ts : List Session) (n : ℕ) (q : Option Session) → slice_get ts n ≡ q → n < length ts → is_some q ≡ true
+one_there ts n (Some s) is below = refl
+one_there [] n None is below = absurd (omega (arith, below))
+one_there (a ∷ ts) zero None is below = absurd (none-some a (sym is))
+one_there (a ∷ ts) (suc n) None is below = one_there ts n None is (omega (arith, below))
+
+there_by : (ts : List Session) (o : Option ℕ) → one_too_many ts ≡ o → is_some (session_at ts o) ≡ is_some o
+there_by ts None is = refl
+there_by ts (Some n) is =
+    let many = too_many ts n is in
+    let last = not_last ts n many.first (omega (arith, many.three)) in
+    one_there ts n (slice_get ts n) refl (omega (arith, last))
+
+-- there is a session of the number that is one too many
+pub one_is_there : (ts : List Session) → is_some (one_closed ts) ≡ is_some (one_too_many ts)
+unfolding one_closed
+one_is_there ts = there_by ts (one_too_many ts) refl

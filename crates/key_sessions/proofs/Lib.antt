@@ -10,3 +10,4 @@ mod Steps
 mod Restages
 mod Exchanges
 mod Exchanged
+mod Coming

@@ -168,6 +168,9 @@ impl<T: SessionText> Slots<T> {
         ensures some { IfOk result (λ text. (peer_id : ℕ) (cipher : Cipher) (ss : List Session) → chosen policy.now client.now.info ≡ Some cipher →
             SlotsStand T.stands_for self.old ss →
             is_some text ≡ is_some (one_too_many (newest_keyed (keys_made client.now.source server.now.source client_sid server_sid cipher peer_id) ss))) }
+        ensures there { IfOk result (λ text. (peer_id : ℕ) (cipher : Cipher) (ss : List Session) → chosen policy.now client.now.info ≡ Some cipher →
+            SlotsStand T.stands_for self.old ss →
+            is_some text ≡ is_some (one_closed (newest_keyed (keys_made client.now.source server.now.source client_sid server_sid cipher peer_id) ss))) }
         ensures text { IfOk result (λ given. IfSome given (λ text. (peer_id : ℕ) (cipher : Cipher) (ss : List Session) (s : Session) →
             chosen policy.now client.now.info ≡ Some cipher → SlotsStand T.stands_for self.old ss →
             one_closed (newest_keyed (keys_made client.now.source server.now.source client_sid server_sid cipher peer_id) ss) ≡ Some s → T.stands_for text s)) }
@@ -209,6 +212,9 @@ impl<T: SessionText> Slots<T> {
         ensures some { IfOk result (λ text. (peer_id : ℕ) (cipher : Cipher) (ss : List Session) → chosen policy.now info.now ≡ Some cipher →
             SlotsStand T.stands_for self.old ss →
             is_some text ≡ is_some (one_too_many (newest_keyed (keys_made client.now server.now client_sid server_sid cipher peer_id) ss))) }
+        ensures there { IfOk result (λ text. (peer_id : ℕ) (cipher : Cipher) (ss : List Session) → chosen policy.now info.now ≡ Some cipher →
+            SlotsStand T.stands_for self.old ss →
+            is_some text ≡ is_some (one_closed (newest_keyed (keys_made client.now server.now client_sid server_sid cipher peer_id) ss))) }
         ensures text { IfOk result (λ given. IfSome given (λ text. (peer_id : ℕ) (cipher : Cipher) (ss : List Session) (s : Session) →
             chosen policy.now info.now ≡ Some cipher → SlotsStand T.stands_for self.old ss →
             one_closed (newest_keyed (keys_made client.now server.now client_sid server_sid cipher peer_id) ss) ≡ Some s → T.stands_for text s)) }

@@ -5,12 +5,14 @@ mod changes;
 mod looks;
 mod name;
 mod places;
+mod runs;
 mod session;
 mod slot;
 mod slots;
 mod text;
 
 pub use name::NameFault;
+pub use runs::{SlotAnswer, SlotEvent, SlotSetup};
 pub use session::{KeySession, Keyed, Named, NoCipher, Opening, cipher_chosen, kid_of};
 pub use slot::{Newest, SessionSeen, Stage};
 pub use slots::Slots;
