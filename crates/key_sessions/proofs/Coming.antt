@@ -2,7 +2,7 @@
 use Rattle.std.proofs.Common.{◌≡◌, ◌≢◌, ℕ, zero, suc, T, Bool, true, false, List, [], ◌∷◌, ◌++◌, length, Option, Some, None, refl, ap, sym, subst, ◌∙◌, arith, rules}
 use Rattle.std.proofs.lemmas.Bool.{false≢true}
 use Rattle.std.proofs.lemmas.Option.{none-some}
-use Rattle.std.specs.Prelude.{is_some, slice_get, IfSome}
+use Rattle.std.specs.Prelude.{is_some, slice_get, IfSome, Result, Ok, Err, IfOk}
 use Rattle.peer_table.specs.KeySessions.{Session, newest, newest_session, session_at}
 use Rattle.peer_table.specs.Peer.{Peer}
 use Rattle.peer_table.specs.Time.{is_open_session, retired}
@@ -42,3 +42,11 @@ retired_by p now (Some n) is = some_open (slice_get p.sessions n) (retired_one p
 -- there is a session of the number that is retired
 pub retired_there : (p : Peer) (now : ℕ) → is_some (session_at p.sessions (retired p now)) ≡ is_some (retired p now)
 retired_there p now = retired_by p now (retired p now) refl
+
+-- what holds of an answer, from what is known of it
+pub ok_so : {T E : Type 0} (r : Result T E) {P Q : T → Type 0} → ((x : T) → P x → Q x) → IfOk r P → IfOk r Q
+ok_so (Ok x) each is = each x is
+ok_so (Err e) each is = tt
+pub some_so : {T : Type 0} (o : Option T) {P Q : T → Type 0} → ((x : T) → P x → Q x) → IfSome o P → IfSome o Q
+some_so (Some x) each is = each x is
+some_so None each is = tt

@@ -11,3 +11,4 @@ mod Restages
 mod Exchanges
 mod Exchanged
 mod Coming
+mod RunLaws

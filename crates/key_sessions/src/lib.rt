@@ -12,7 +12,7 @@ mod slots;
 mod text;
 
 pub use name::NameFault;
-pub use runs::{SlotAnswer, SlotEvent, SlotSetup};
+pub use runs::{SlotAnswer, SlotEvent, SlotSetup, run_slots};
 pub use session::{KeySession, Keyed, Named, NoCipher, Opening, cipher_chosen, kid_of};
 pub use slot::{Newest, SessionSeen, Stage};
 pub use slots::Slots;

@@ -1,6 +1,6 @@
 //! Whole runs of the key sessions of one client, whose texts are bare.
 
-ghost use Rattle.std.specs.Prelude.{◌≡◌, ℕ, List, Option, IfOk, Some};
+ghost use Rattle.std.specs.Prelude.{◌≡◌, ℕ, List, Option, IfOk, Some, None};
 ghost use Rattle.vpn_base.specs.declared.names.Role.TheVariants.{Server};
 ghost use Rattle.vpn_base.specs.declared.names.Sid.{Sid};
 ghost use Rattle.tls_crypt.specs.Packets.{Wrapping};
@@ -283,5 +283,45 @@ fn event_comes(
         SlotEvent::Begin { conn } => begin_comes(slots, *conn, now),
         SlotEvent::Retire => Ok(retire_comes(slots, setup, now)),
         SlotEvent::Look { kid } => Ok(look_comes(slots, setup, *kid, now)),
+    }
+}
+
+// All events come, one after the other.
+fn events_come(
+    alloc: Global,
+    slots: &mut Slots<BareText>,
+    setup: &SlotSetup,
+    events: &[(SlotEvent, Moment)],
+) -> Result<Vec<SlotAnswer>, NoMemory>
+    requires { IsWhole slots.old }
+    ensures { IfOk result (λ answers. (p : Peer) → IsAt setup.now.timers slots.old None p → answers.items ≡ answers_of setup.now p events.now) }
+{
+    let mut known = None;
+    let mut answers = Vec::new(alloc);
+    for (event, now) in events {
+        let answer = match event_comes(alloc, slots, &mut known, setup, event, *now) {
+            Ok(answer) => answer,
+            Err(fault) => return Err(fault),
+        };
+        answers.push(answer)?;
+    }
+    Ok(answers)
+}
+
+/// A run of the key sessions of a fresh client: the events come one after the other, each with its moment,
+/// and the answers are those of each in order, as the list of all its sessions has them.
+pub fn run_slots(
+    alloc: Global,
+    setup: &SlotSetup,
+    events: &[(SlotEvent, Moment)],
+) -> Result<Vec<SlotAnswer>, NoMemory>
+    ensures { IfOk result (λ answers. (wraps : Wrapping) (own : Sid) →
+        answers.items ≡ answers_of setup.now (peer_begun Server wraps own setup.now.timers setup.now.conn setup.now.began.0) events.now) }
+{
+    let text = BareText { conn: setup.conn };
+    let mut slots = Slots::new(alloc, KeySession::begin(text, 0, setup.began));
+    match events_come(alloc, &mut slots, setup, events) {
+        Ok(answers) => Ok(answers),
+        Err(fault) => Err(fault),
     }
 }
