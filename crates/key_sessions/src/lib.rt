@@ -17,3 +17,6 @@ pub use session::{KeySession, Keyed, Named, NoCipher, Opening, cipher_chosen, ki
 pub use slot::{Newest, SessionSeen, Stage};
 pub use slots::Slots;
 pub use text::SessionText;
+
+#[cfg(test)]
+mod tests;

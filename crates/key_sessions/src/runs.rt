@@ -91,7 +91,7 @@ pub struct SlotSetup {
 // A text that is no more than its engine connection.
 #[derive(Drop)]
 pub(crate) struct BareText {
-    conn: Conn,
+    pub(crate) conn: Conn,
 }
 
 impl ControlText for BareText {
