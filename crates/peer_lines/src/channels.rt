@@ -14,6 +14,7 @@ use crate::open_link::OpenLink;
 use control_link::ControlLink;
 use data_channel::DataChannel;
 use gcm_seal::AnyGcm;
+use key_sessions::SessionText;
 use opcode_codec::Opcode;
 use packet_ids::Window;
 use std::alloc::Global;
@@ -116,4 +117,15 @@ impl ControlText for SessionChannels {
     fn read_count(&self) -> u64 {
         self.link.read_count()
     }
+}
+
+impl SessionText for SessionChannels {
+    ghost use Rattle.peer_lines.specs.Standing.{StandsFor};
+    ghost use Rattle.peer_lines.specs.internal.Texts.{has_link, restaged_stands};
+
+    ghost stands_for = { StandsFor };
+
+    ghost restaged = { restaged_stands };
+
+    ghost on_link = { has_link };
 }
