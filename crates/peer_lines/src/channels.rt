@@ -1,6 +1,6 @@
 //! What belongs to one key session.
 
-ghost use Rattle.std.specs.Prelude.{◌≡◌, ◌≤◌, ◌<◌, ◌+◌, ◌-◌, ℕ, List, length, drop, [], false, true, IsOk, OnOk, vec_len, vec_capacity};
+ghost use Rattle.std.specs.Prelude.{◌≡◌, ◌≤◌, ◌<◌, ℕ, List, length, false, IsOk, OnOk};
 ghost use Rattle.vpn_base.specs.declared.names.Timers.{Timers};
 ghost use Rattle.reliable_send.specs.Sending.{cut, piece_count};
 ghost use Rattle.control_link.specs.Links.{IsReset};
