@@ -4,7 +4,6 @@ use Rattle.std.proofs.lemmas.Option.{none-some}
 use Rattle.vpn_base.specs.declared.names.Sid.{Sid}
 use Rattle.opcode_codec.specs.ControlText.{ControlForm}
 use Rattle.reliable_send.specs.Sending.{is_full, offered}
-use Rattle.control_link.specs.declared.link.LinkEnd.{LinkEnd}
 use Rattle.control_link.specs.declared.link.LinkEnd.TheVariants.{TextFull, WrapSpent}
 use Rattle.control_link.specs.Calls.{Outcome, after_text, next_text, received, said, ticked, unchanged, with_ready}
 use Rattle.control_link.specs.Envelope.{EnvelopeHistory}
