@@ -4,3 +4,4 @@ pub mod Links
 pub mod Texts
 pub mod Taking
 pub mod Stages
+pub mod GoingOn

@@ -27,7 +27,7 @@ use Rattle.peer_lines.specs.Standing.{IsOfSession, NoneIsLonger, StandsFor}
 use Rattle.peer_lines.proofs.Links.{data_relinked}
 use Rattle.peer_lines.proofs.Texts.{frame_read, none_longer_received}
 
-frame_received : (l : Link) (h : EnvelopeHistory) (v : ControlForm) (remote : Sid) (now : ℕ) → (received l h v remote now).link.kid ≡ l.kid
+pub frame_received : (l : Link) (h : EnvelopeHistory) (v : ControlForm) (remote : Sid) (now : ℕ) → (received l h v remote now).link.kid ≡ l.kid
 unfolding received
 frame_received l h v remote now = refl
 

@@ -1,5 +1,5 @@
 -- What the calls of a session's channels do, each as one function of the session and of what it was lent.
-use Rattle.std.specs.Prelude.{ℕ, ◌+◌, ◌++◌, Bool, true, false, List, [], Option, Some, None, Result, Ok, Err}
+use Rattle.std.specs.Prelude.{◌≡◌, ℕ, ◌+◌, ◌++◌, Bool, true, false, List, [], Option, Some, None, Result, Ok, Err}
 use Rattle.std.specs.List.{before_first, list_any}
 use Rattle.vpn_base.specs.declared.address.Addr.{Addr}
 use Rattle.vpn_base.specs.declared.errors.Or.{Or}
@@ -76,6 +76,11 @@ begun_sent s h remote now = linked s (link.with_ready s.link h [] remote now)
 -- what is due is sent again
 unfoldable pub due_sent : Session → EnvelopeHistory → Sid → ℕ → LineOutcome
 due_sent s h remote now = linked s (link.ticked s.link h remote now)
+
+-- the link keeps its key id, and where no end is told the wrap ids did not end on it
+pub record GoesOn (s : Session) (o : LineOutcome) : Type 0 where
+  pub kid : o.session.link.kid ≡ s.link.kid
+  pub spent : o.end ≡ None → o.session.link.spent ≡ false
 
 -- at want of memory nothing has changed
 abbrev pub unless_wanting : {A : Type 0} → Result A (Or LinkEnd) → LineOutcome → LineOutcome → LineOutcome

@@ -1,8 +1,8 @@
 //! What belongs to one key session.
 
-ghost use Rattle.std.specs.Prelude.{◌≡◌, ◌≤◌, ◌<◌, ◌+◌, ◌-◌, ℕ, List, length, drop, [], false, true, IsOk, OnOk, vec_len, vec_capacity};
+ghost use Rattle.std.specs.Prelude.{◌≡◌, ◌≤◌, ◌<◌, ℕ, List, length, false, IsOk, OnOk};
 ghost use Rattle.vpn_base.specs.declared.names.Timers.{Timers};
-ghost use Rattle.reliable_send.specs.Sending.{piece_count};
+ghost use Rattle.reliable_send.specs.Sending.{cut, piece_count};
 ghost use Rattle.control_link.specs.Links.{IsReset};
 ghost use Rattle.peer_table.specs.Exchange.{unread};
 ghost use Rattle.peer_table.specs.KeySessions.{Session, kid_of, session_begun};
@@ -69,7 +69,9 @@ impl SessionChannels {
         ensures same { (s : Session) → StandsFor self.old s → StandsFor self.new s }
         ensures payload { OnOk result (payload ≤ payload_room self.new) }
         ensures text { OnOk result (piece_count text ≤ text_room self.new) }
+        ensures enough { OnOk result ((bytes : List ℕ) → length bytes ≤ text → length (cut bytes) ≤ text_room self.new) }
         ensures plain { OnOk result (plain ≤ plain_room self.new) }
+        ensures fits { payload ≤ payload_room self.old → piece_count text ≤ text_room self.old → plain ≤ plain_room self.old → IsOk result }
         ensures keeps { KeepsRoom self.old self.new }
         ensures longest { longest self.new ≡ longest self.old }
         ensures there { has_data self.new ≡ has_data self.old }

@@ -1,9 +1,8 @@
 //! The control link of one key session.
 
-ghost use Rattle.std.specs.Prelude.{◌≡◌, ◌≤◌, ◌+◌, ◌*◌, ℕ, List, [], ◌∷◌, ◌++◌, length, false, max, IsOk, OnOk, OnErr};
+ghost use Rattle.std.specs.Prelude.{◌≡◌, ◌≤◌, ◌+◌, [], ◌∷◌, ◌++◌, length, false, IsOk, OnOk, OnErr};
 ghost use Rattle.vpn_base.specs.declared.names.Role.{Role};
 ghost use Rattle.vpn_links.specs.Actions.{Holds};
-ghost use Rattle.opcode_codec.specs.ControlText.{control_form};
 ghost use Rattle.reliable_send.specs.Sending.{cut};
 ghost use Rattle.reliable_send.specs.Sides.{IsNotMemory};
 ghost use Rattle.control_link.specs.Calls.{Told};
@@ -11,7 +10,7 @@ ghost use Rattle.control_link.specs.Envelope.{EnvelopeHistory, EnvelopeStands};
 ghost use Rattle.peer_table.specs.KeySessions.{Session};
 ghost use Rattle.peer_table.specs.Outboxes.{HasRoom, Uses, actions_of};
 ghost use Rattle.peer_table.specs.Peer.{Closes};
-ghost use Rattle.peer_lines.specs.Calls.{Leaves, begun_sent, due_sent, packet_taken, still, text_offered, unless_wanting};
+ghost use Rattle.peer_lines.specs.Calls.{Leaves, begun_sent, due_sent, still, text_offered, unless_wanting};
 ghost use Rattle.peer_lines.specs.Standing.{StandsFor, has_data};
 ghost use Rattle.peer_lines.specs.Rooms.{longest, payload_room, text_room};
 

@@ -1,6 +1,6 @@
 //! Keys, and data packets of one key session.
 
-ghost use Rattle.std.specs.Prelude.{◌≡◌, ◌↔◌, ◌≤◌, ◌<◌, ◌+◌, ◌-◌, ◌^◌, ℕ, List, [], ◌∷◌, ◌++◌, length, take, false, true, not, Some, IsOk, IsErr, IfOk, OnOk, OnErr, is_ok, vec_len, vec_capacity};
+ghost use Rattle.std.specs.Prelude.{◌≡◌, ◌↔◌, ◌≤◌, ◌<◌, ◌+◌, ◌-◌, ◌^◌, ℕ, [], ◌∷◌, ◌++◌, length, take, true, not, Some, IsOk, IsErr, IfOk, OnOk, OnErr, is_ok, vec_capacity};
 ghost use Rattle.vpn_base.specs.declared.names.Role.{Role};
 ghost use Rattle.vpn_links.specs.Actions.{Holds, Wire};
 ghost use Rattle.packet_ids.specs.Freshness.{History};

@@ -1,6 +1,6 @@
 //! A control link that refuses to go on once the wrap ids ended.
 
-ghost use Rattle.std.specs.Prelude.{◌≡◌, ◌≤◌, ◌+◌, ℕ, List, [], length, false, None, OnOk};
+ghost use Rattle.std.specs.Prelude.{◌≡◌, ◌≤◌, ◌+◌, ℕ, List, [], length, false, None, IsOk, OnOk};
 ghost use Rattle.reliable_send.specs.Sending.{cut, piece_count};
 ghost use Rattle.reliable_send.specs.Sides.{IsNotMemory};
 ghost use Rattle.control_link.specs.Calls.{Left, Told, said, tells_spent, ticked, unchanged, unless_memory, with_ready};
@@ -67,6 +67,7 @@ impl OpenLink {
     pub(crate) fn reserve_payload(&mut self, bytes: usize) -> Result<(), NoMemory>
         ensures same { (l : Link) → LinkStands self.old l → LinkStands self.new l }
         ensures ok { OnOk result (bytes ≤ self.new.receiving.spare) }
+        ensures fits { bytes ≤ self.old.receiving.spare → IsOk result }
         ensures grows { (self.old.receiving.spare ≤ self.new.receiving.spare) × (self.old.sending.spare ≤ self.new.sending.spare) }
     {
         self.link.reserve_payload(bytes)
@@ -75,6 +76,8 @@ impl OpenLink {
     pub(crate) fn reserve_text(&mut self, bytes: usize) -> Result<(), NoMemory>
         ensures same { (l : Link) → LinkStands self.old l → LinkStands self.new l }
         ensures ok { OnOk result (piece_count bytes ≤ self.new.sending.spare) }
+        ensures enough { OnOk result ((text : List ℕ) → length text ≤ bytes → length (cut text) ≤ self.new.sending.spare) }
+        ensures fits { piece_count bytes ≤ self.old.sending.spare → IsOk result }
         ensures grows { (self.old.receiving.spare ≤ self.new.receiving.spare) × (self.old.sending.spare ≤ self.new.sending.spare) }
     {
         self.link.reserve_text(bytes)

@@ -1,6 +1,6 @@
 //! The plain text of the other end.
 
-ghost use Rattle.std.specs.Prelude.{◌≡◌, ◌≤◌, ◌<◌, ◌+◌, ◌-◌, ℕ, List, length, drop, false, true, Some, IsOk, OnOk, OnErr, IfSome, position, vec_len, vec_capacity};
+ghost use Rattle.std.specs.Prelude.{◌≡◌, ◌≤◌, ◌<◌, ◌+◌, ◌-◌, length, drop, false, true, Some, IsOk, OnOk, OnErr, IfSome, position, vec_len, vec_capacity};
 ghost use Rattle.std.specs.Option.{option_copied};
 ghost use Rattle.vpn_base.specs.declared.names.Role.{Role};
 ghost use Rattle.key_method2.specs.Reading.{reading};

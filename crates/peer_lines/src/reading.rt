@@ -1,6 +1,6 @@
 //! Control packets of one key session, and the text that they bring to the TLS engine.
 
-ghost use Rattle.std.specs.Prelude.{◌≡◌, ◌≤◌, ◌<◌, ◌+◌, ◌*◌, ◌^◌, ℕ, List, [], ◌∷◌, ◌++◌, length, false, max, None, IsOk, IfOk, IfSome, IfNone, OnOk, OnErr};
+ghost use Rattle.std.specs.Prelude.{◌≡◌, ◌≤◌, ◌<◌, ◌+◌, ◌*◌, ◌^◌, ℕ, [], ◌∷◌, ◌++◌, length, false, max, None, IsOk, IfOk, IfSome, IfNone, OnOk, OnErr};
 ghost use Rattle.vpn_base.specs.declared.names.Role.{Role};
 ghost use Rattle.vpn_links.specs.Actions.{Holds};
 ghost use Rattle.opcode_codec.specs.ControlText.{control_form};

@@ -145,6 +145,7 @@ fn keys_are_used(rt: HostRuntime) -> Result<(), Fail> {
     );
     channels.close(&mut out)?;
     channels_stand_on();
+    links_go_on();
     assert!(rt; wire(out.effect(1)) == OF_SERVER.as_slice());
     assert_eq!(rt; out.count(), 3);
     Ok(())
