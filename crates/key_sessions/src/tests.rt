@@ -99,7 +99,13 @@ impl Script {
         Ok(())
     }
 
-    fn name(&mut self, alloc: Global, name: &[u8], at: u64, answer: SlotAnswer) -> Result<(), NoMemory> {
+    fn name(
+        &mut self,
+        alloc: Global,
+        name: &[u8],
+        at: u64,
+        answer: SlotAnswer,
+    ) -> Result<(), NoMemory> {
         let name = Bytes::copy(alloc, name)?;
         self.add(SlotEvent::Name { name }, at, answer)
     }
@@ -154,7 +160,12 @@ fn bad_names(alloc: Global, script: &mut Script) -> Result<(), NoMemory> {
     let at = 3_609_000;
     script.add(SlotEvent::Begin { conn: Conn(10) }, at, SlotAnswer::Nothing)?;
     script.name(alloc, b"..", at, SlotAnswer::BadName(NameFault::BadName))?;
-    script.name(alloc, b"bob", at, SlotAnswer::BadName(NameFault::NameChanged))
+    script.name(
+        alloc,
+        b"bob",
+        at,
+        SlotAnswer::BadName(NameFault::NameChanged),
+    )
 }
 
 #[test]
