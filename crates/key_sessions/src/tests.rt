@@ -1,6 +1,8 @@
 //! Renegotiations in order, names and key exchanges that are refused, and each call on its happy path.
 
 ghost use Rattle.std.specs.Prelude.{◌≡◌, IfOk, IsSome};
+ghost use Rattle.key_sessions.specs.Slots.{IsWhole, newest_number, newest_stage};
+ghost use Rattle.key_sessions.specs.declared.slot.Stage.TheVariants as stages;
 
 use super::*;
 use crate::runs::BareText;
@@ -183,7 +185,9 @@ fn nine_renegotiations(rt: HostRuntime) -> Result<(), Fail> {
     Ok(())
 }
 
-fn begun() -> KeySession<BareText, Opening> {
+fn begun() -> KeySession<BareText, Opening>
+    ensures { result.number ≡ 0 }
+{
     KeySession::begin(BareText { conn: Conn(7) }, 0, Moment(5))
 }
 
@@ -256,5 +260,76 @@ fn a_session_gets_keys(rt: HostRuntime) -> Result<(), Fail> {
         }
         None => assert!(rt; false),
     }
+    Ok(())
+}
+
+// Slots whose session 0 has keys.
+fn keyed_slots(alloc: Global) -> Result<Slots<BareText>, NoMemory>
+    ensures whole { IfOk result (λ slots. IsWhole slots) }
+    ensures stage { IfOk result (λ slots. newest_stage slots ≡ stages.Keyed) }
+    ensures number { IfOk result (λ slots. newest_number slots ≡ 0) }
+{
+    let client = of_client(alloc, b"")?.source;
+    let server = of_server(alloc)?.source;
+    let mut slots = Slots::new(alloc, begun());
+    match slots.name_newest(b"alice", None) {
+        Ok(()) => {}
+        Err(_) => return Err(NoMemory),
+    }
+    let info = b"IV_CIPHERS=AES-256-GCM\n";
+    match slots.exchange(&client, info, &server, &POLICY, CLIENT_SID, SERVER_SID) {
+        Ok(_) => Ok(slots),
+        Err(NoCipher) => Err(NoMemory),
+    }
+}
+
+// What is told of session 0, which is alone, on connection 7, begun at 5, and has keys.
+fn tells(slots: &Slots<BareText>) -> bool {
+    let now = Moment(6);
+    let cipher = Some(Cipher::Aes256Gcm);
+    slots.open_at(0) == Some((0, 0, Conn(7)))
+        && slots.open_at(1) == None
+        && slots.open_with(Conn(7)) == Some(0)
+        && slots.open_with_kid(0) == Some(0)
+        && slots.newest_usable() == Some(0)
+        && slots.retiring() == None
+        && slots.retired(now, 0) == None
+        && slots.live(0, now, 0) == Some(0)
+        && slots.is_open(0)
+        && slots.cipher() == cipher
+        && slots.keys(0).is_some()
+        && slots.keys_at(1).is_none()
+}
+
+fn shows(slots: &Slots<BareText>) -> bool {
+    let seen = SessionSeen {
+        number: 0,
+        kid: 0,
+        conn: Conn(7),
+        began: Moment(5),
+        stage: Stage::Keyed,
+        is_open: true,
+    };
+    slots.at(0) == Some(seen) && slots.at(1) == None
+}
+
+#[test]
+fn slots_tell_of_their_sessions(rt: HostRuntime) -> Result<(), Fail> {
+    let alloc = rt.alloc();
+    let mut slots = keyed_slots(alloc)?;
+    assert!(rt; tells(&slots));
+    assert!(rt; shows(&slots));
+    match slots.take_text(0) {
+        Some(text) => slots.put_text(0, text),
+        None => {
+            assert!(rt; false);
+            return Ok(());
+        }
+    }
+    slots.reserve()?;
+    let next = KeySession::begin(BareText { conn: Conn(8) }, 1, Moment(9));
+    assert!(rt; slots.begin_next(next).is_ok());
+    assert!(rt; slots.open_at(1) == Some((1, 1, Conn(8))));
+    assert!(rt; slots.name().is_none());
     Ok(())
 }
