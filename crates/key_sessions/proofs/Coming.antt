@@ -1,16 +1,16 @@
 -- What comes of single events of a run.
-use Rattle.std.proofs.Common.{◌≡◌, ◌≢◌, ℕ, zero, suc, T, Bool, true, false, List, [], ◌∷◌, ◌++◌, length, Option, Some, None, refl, ap, sym, subst, ◌∙◌, arith, rules}
+use Rattle.std.proofs.Common.{◌≡◌, ℕ, true, List, Option, Some, None, refl, ap, sym}
 use Rattle.std.proofs.lemmas.Bool.{false≢true}
 use Rattle.std.proofs.lemmas.Option.{none-some}
 use Rattle.std.specs.Prelude.{is_some, slice_get, IfSome, Result, Ok, Err, IfOk}
 use Rattle.peer_table.specs.KeySessions.{Session, newest, newest_session, session_at}
 use Rattle.peer_table.specs.Peer.{Peer}
 use Rattle.peer_table.specs.Time.{is_open_session, retired}
-use Rattle.key_sessions.specs.Looks.{newest_as, newest_seen, stage_of}
+use Rattle.key_sessions.specs.Looks.{newest_as, newest_seen}
 use Rattle.key_sessions.specs.Runs.{closing_of, kind_of}
 use Rattle.key_sessions.specs.declared.runs.BareText.{BareText}
 use Rattle.key_sessions.specs.declared.slot.Newest.{Newest}
-use Rattle.key_sessions.specs.declared.runs.SlotAnswer.TheVariants.{Nothing, Closed}
+use Rattle.key_sessions.specs.declared.runs.SlotAnswer.TheVariants.{Closed}
 use Rattle.key_sessions.specs.internal.Courses.{bare_stands, closing_told}
 use Rattle.key_sessions.proofs.Usable.{retired_one}
 
@@ -47,6 +47,7 @@ retired_there p now = retired_by p now (retired p now) refl
 pub ok_so : {T E : Type 0} (r : Result T E) {P Q : T → Type 0} → ((x : T) → P x → Q x) → IfOk r P → IfOk r Q
 ok_so (Ok x) each is = each x is
 ok_so (Err e) each is = tt
+
 pub some_so : {T : Type 0} (o : Option T) {P Q : T → Type 0} → ((x : T) → P x → Q x) → IfSome o P → IfSome o Q
 some_so (Some x) each is = each x is
 some_so None each is = tt

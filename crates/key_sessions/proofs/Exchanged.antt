@@ -1,7 +1,7 @@
 -- The key exchange of the newest session, over all slots and over all sessions.
-use Rattle.std.proofs.Common.{◌≡◌, ◌≤◌, ◌<◌, ℕ, zero, suc, ◌+◌, T, Bool, true, false, List, [], ◌∷◌, length, Option, Some, None, refl, ap, sym, subst, ◌∙◌, arith, rules}
+use Rattle.std.proofs.Common.{◌≡◌, ◌<◌, ℕ, zero, suc, true, false, List, [], ◌∷◌, length, Option, Some, None, refl, ap, sym, subst, ◌∙◌, arith}
 use Rattle.std.proofs.lemmas.Option.{none-some}
-use Rattle.std.specs.Prelude.{slice_get, is_some, IfSome}
+use Rattle.std.specs.Prelude.{slice_get, is_some}
 use Rattle.vpn_base.specs.declared.names.Cipher.{Cipher}
 use Rattle.hmac_kit.specs.declared.derivation.KeyBlock.{KeyBlock}
 use Rattle.peer_table.specs.KeySessions.{Keys, Session, has_keys, newest, session_at}
@@ -18,11 +18,11 @@ use Rattle.key_sessions.specs.declared.slot.Which.TheVariants as which
 use Rattle.key_sessions.specs.declared.slots.Slots.{Slots}
 use Rattle.key_sessions.specs.internal.Numbers.{had_keys, picks}
 use Rattle.key_sessions.specs.internal.Steps.{given_at, keyed_stage}
-use Rattle.key_sessions.specs.Slots.{AreSlotsOf, EachStands, IsStage, IsWhole, SlotsStand, all_slots, is_open_stage, newest_stage, stage_seen}
+use Rattle.key_sessions.specs.Slots.{EachStands, IsStage, IsWhole, SlotsStand, all_slots, is_open_stage, newest_stage, stage_seen}
 use Rattle.key_sessions.proofs.Exchanges.{IsBefore, exchanged_orderly, not_last, too_many, too_many_open}
 use Rattle.key_sessions.proofs.Listed.{places_same}
 use Rattle.key_sessions.proofs.Restages.{Restaged, restaged_each, restaged_whole}
-use Rattle.key_sessions.proofs.Steps.{Changes, IsOpenKeyedAt, answer_each, close_each, close_gives, close_whole}
+use Rattle.key_sessions.proofs.Steps.{Changes, IsOpenKeyedAt, close_each, close_gives}
 use Rattle.key_sessions.proofs.Usable.{newest_is, newest_stands, same_keys, session_count}
 
 -- a kept stage with a name and no keys gets keys
@@ -61,17 +61,19 @@ between stands_for law block cipher keys before mid ss is_block is_cipher is nam
     let here = newest_stands stands_for before ss are in
     let number = newest_is stands_for before ss are in
     let each = restaged_each stands_for law (keyed_stage block cipher before.newest.stage) (sessions.Keyed keys) before mid ss is are gets.none
-        (gets.is_open ∙ sym gets.was_open) gets.stage in
-    (here.0, record {
-      each = each;
-      before = record {
-        size = session_count stands_for before ss are ∙ ap suc (sym number);
-        at = ap (slice_get ss) number ∙ here.1;
-        none = same_keys before.newest.stage here.0.stage here.2.stage ∙ gets.none;
-        is_open = sym here.2.is_open ∙ gets.was_open;
-      };
-      which = ap oldest_of (places_same stands_for which.OpenKeyed (all_slots mid) (newest_keyed keys ss) 0 each);
-    })
+    (gets.is_open ∙ sym gets.was_open) gets.stage in (
+      here.0,
+      record {
+        each = each;
+        before = record {
+          size = session_count stands_for before ss are ∙ ap suc (sym number);
+          at = ap (slice_get ss) number ∙ here.1;
+          none = same_keys before.newest.stage here.0.stage here.2.stage ∙ gets.none;
+          is_open = sym here.2.is_open ∙ gets.was_open;
+        };
+        which = ap oldest_of (places_same stands_for which.OpenKeyed (all_slots mid) (newest_keyed keys ss) 0 each);
+      },
+    )
 
 -- nothing is closed
 pub exchanged_alone : {T : Type 0} (stands_for : T → Session → Type 0) (mid : Slots T) (keys : Keys) (ss : List Session) (s : Session) → Between stands_for mid keys ss s →
@@ -119,7 +121,7 @@ exchanged_gives stands_for mid keys ss s n result b some whole gave =
     let last = not_last (newest_keyed keys ss) n many.first (omega (arith, many.three)) in
     ap is_some gave ∙
     close_gives stands_for mid (newest_keyed keys ss) n b.each whole
-        (there_is (newest_keyed keys ss) n (slice_get (newest_keyed keys ss) n) refl (omega (arith, last)) (too_many_open (newest_keyed keys ss) n is)) ∙
+    (there_is (newest_keyed keys ss) n (slice_get (newest_keyed keys ss) n) refl (omega (arith, last)) (too_many_open (newest_keyed keys ss) n is)) ∙
     ap is_some (sym is)
 
 -- all texts are there

@@ -1,22 +1,19 @@
 -- The newest session has keys, and one session too many is closed.
-use Rattle.std.proofs.Common.{◌≡◌, ◌≢◌, ◌≤◌, ◌<◌, ℕ, zero, suc, ◌+◌, T, Bool, true, false, List, [], ◌∷◌, ◌++◌, length, Option, Some, None, refl, ap, sym, subst, ◌∙◌, arith, rules}
+use Rattle.std.proofs.Common.{◌≡◌, ◌≤◌, ◌<◌, ℕ, zero, suc, Bool, true, false, List, [], ◌∷◌, length, Option, Some, None, refl, ap, sym, ◌∙◌, arith}
 use Rattle.std.proofs.lemmas.Bool.{false≢true}
 use Rattle.std.proofs.lemmas.Option.{none-some}
-use Rattle.std.specs.Prelude.{◌&&◌, slice_get, is_some, IfSome}
-use Rattle.vpn_base.specs.declared.names.Cipher.{Cipher}
-use Rattle.hmac_kit.specs.declared.derivation.KeyBlock.{KeyBlock}
+use Rattle.std.specs.Prelude.{◌&&◌, slice_get}
 use Rattle.peer_table.specs.KeySessions.{Keys, Session, closed, has_keys, is_keyed, newest, newest_usable, session_at}
 use Rattle.peer_table.specs.KeySessions as sessions
 use Rattle.peer_table.specs.Exchange.{is_open_keyed, oldest_of}
 use Rattle.peer_table.specs.Orderly.{IsOrderly, all_before_have_keys, how_many, more_if}
-use Rattle.peer_table.specs.Places.{before_if, changed_at, earlier, first_place, last_place, places_from}
+use Rattle.peer_table.specs.Places.{changed_at, earlier, first_place, places_from}
 use Rattle.key_sessions.specs.Changes.{closed_in, exchanged_in, newest_keyed, one_too_many}
 use Rattle.key_sessions.specs.Sessions.{restaged}
 use Rattle.key_sessions.specs.Slots.{LastIsOpen}
-use Rattle.key_sessions.specs.internal.Numbers.{number_if}
 use Rattle.key_sessions.proofs.Fronts.{last_of_all}
 use Rattle.key_sessions.proofs.Listed.{count_is, first_of_all}
-use Rattle.key_sessions.proofs.Orders.{Keeps, changed_elsewhere, changed_keyed, changed_length, changed_orderly, changed_there, still_open_beside}
+use Rattle.key_sessions.proofs.Orders.{Keeps, changed_keyed, changed_length, changed_there, still_open_beside}
 
 -- ---- counts
 
@@ -152,7 +149,7 @@ pub keyed_open : (keys : Keys) (ss : List Session) (s : Session) → IsOrderly s
 keyed_open keys ss s o before = λ n t is_last is.
     let number : newest ss ≡ n = cc (keyed_last keys ss s o before, is_last) in
     let there : slice_get (newest_keyed keys ss) n ≡ Some (restaged (sessions.Keyed keys) s) =
-        ap (slice_get (newest_keyed keys ss)) (sym number) ∙ keyed_there keys ss s before in
+    ap (slice_get (newest_keyed keys ss)) (sym number) ∙ keyed_there keys ss s before in
     let same : restaged (sessions.Keyed keys) s ≡ t = cc (there, is) in
     ap (λ (u : Session). u.is_open) (sym same) ∙ before.is_open
 
@@ -183,26 +180,30 @@ orderly_by : (keys : Keys) (ss : List Session) (s : Session) (o : Option ℕ) �
     IsOrderly (closed_in o (newest_keyed keys ss)) × LastIsOpen (closed_in o (newest_keyed keys ss))
 unfolding one_too_many
 orderly_by keys ss s None is orderly before =
-    let few = few_if_none (places_from is_open_keyed 0 (newest_keyed keys ss)) is in
-    (record {
-      begun = omega (arith, keyed_length keys ss, orderly.begun);
-      keyed = keyed_all keys ss orderly;
-      few = omega (arith, few, count_is is_open_keyed (newest_keyed keys ss) 0);
-    }, keyed_open keys ss s orderly before)
+    let few = few_if_none (places_from is_open_keyed 0 (newest_keyed keys ss)) is in (
+      record {
+        begun = omega (arith, keyed_length keys ss, orderly.begun);
+        keyed = keyed_all keys ss orderly;
+        few = omega (arith, few, count_is is_open_keyed (newest_keyed keys ss) 0);
+      },
+      keyed_open keys ss s orderly before,
+    )
 orderly_by keys ss s (Some n) is orderly before =
     let many = too_many (newest_keyed keys ss) n is in
     let ts = newest_keyed keys ss in
     let less = closed_less (newest_keyed keys ss) n many.first in
-    let below = not_last (newest_keyed keys ss) n many.first (omega (arith, many.three)) in
-    (record {
-      begun = omega (arith, changed_length n closed (newest_keyed keys ss), keyed_length keys ss, orderly.begun);
-      keyed = changed_keyed n closed (newest_keyed keys ss) (λ s at k. k) (keyed_all keys ss orderly);
-      few = omega (arith, less, keyed_few keys ss orderly);
-    }, still_open_beside n closed (newest_keyed keys ss) (λ s at. refl)
-        (λ m last same.
-            let number : newest ss ≡ m = cc (keyed_last keys ss s orderly before, last) in
-            absurd (omega (arith, below, keyed_length keys ss, before.size, number, same)))
-        (keyed_open keys ss s orderly before))
+    let below = not_last (newest_keyed keys ss) n many.first (omega (arith, many.three)) in (
+      record {
+        begun = omega (arith, changed_length n closed (newest_keyed keys ss), keyed_length keys ss, orderly.begun);
+        keyed = changed_keyed n closed (newest_keyed keys ss) (λ s at k. k) (keyed_all keys ss orderly);
+        few = omega (arith, less, keyed_few keys ss orderly);
+      },
+      still_open_beside n closed (newest_keyed keys ss) (λ s at. refl)
+          (λ m last same.
+          let number : newest ss ≡ m = cc (keyed_last keys ss s orderly before, last) in
+          absurd (omega (arith, below, keyed_length keys ss, before.size, number, same)))
+          (keyed_open keys ss s orderly before),
+    )
 
 pub exchanged_orderly : (keys : Keys) (ss : List Session) (s : Session) → IsOrderly ss → IsBefore ss s → IsOrderly (exchanged_in keys ss) × LastIsOpen (exchanged_in keys ss)
 unfolding exchanged_in

@@ -1,8 +1,8 @@
 -- Which sessions have keys, where all but the newest do.
-use Rattle.std.proofs.Common.{◌≡◌, ℕ, zero, suc, ◌+◌, ◌<◌, Bool, true, false, List, [], ◌∷◌, length, take, Option, Some, None, refl, ap, sym, ◌∙◌, arith, rules}
+use Rattle.std.proofs.Common.{◌≡◌, ℕ, zero, suc, ◌<◌, Bool, true, false, List, [], ◌∷◌, length, take, Some, None, refl, ap, sym, ◌∙◌, arith}
 use Rattle.std.proofs.lemmas.Bool.{false≢true}
 use Rattle.std.specs.Prelude.{◌&&◌, slice_get}
-use Rattle.peer_table.specs.KeySessions.{Session, has_keys, keyed_before, newest_usable, retiring}
+use Rattle.peer_table.specs.KeySessions.{Session, has_keys}
 use Rattle.peer_table.specs.Orderly.{all_before_have_keys}
 use Rattle.peer_table.specs.Places.{last_place, later}
 use Rattle.key_sessions.specs.internal.Numbers.{number_before, number_if}

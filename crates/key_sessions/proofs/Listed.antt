@@ -1,7 +1,6 @@
 -- Sessions that are looked for, told by the slots.
-use Rattle.std.proofs.Common.{◌≡◌, ℕ, zero, suc, ◌+◌, ◌<◌, ◌≤◌, Bool, true, false, List, [], ◌∷◌, length, Option, Some, None, refl, ap, sym, ◌∙◌, arith, rules, subst}
+use Rattle.std.proofs.Common.{◌≡◌, ℕ, zero, suc, ◌+◌, ◌≤◌, Bool, true, false, List, [], ◌∷◌, length, Option, Some, None, refl, ap, sym, ◌∙◌, arith}
 use Rattle.std.specs.Prelude.{slice_get, ◌==◌, ◌&&◌}
-use Rattle.std.proofs.lemmas.Option.{none-some}
 use Rattle.vpn_base.specs.declared.names.Conn.{Conn}
 use Rattle.peer_table.specs.EngineAnswers.{is_on, open_with}
 use Rattle.peer_table.specs.Exchange.{is_open_keyed}
@@ -16,7 +15,7 @@ use Rattle.key_sessions.specs.declared.slot.SlotStage.{SlotStage}
 use Rattle.key_sessions.specs.declared.slot.SlotStage.TheVariants as kept
 use Rattle.key_sessions.specs.declared.slot.Which.{Which}
 use Rattle.key_sessions.specs.declared.slot.Which.TheVariants as which
-use Rattle.key_sessions.specs.Looks.{keyed_with, keys_of_some, listed, listed_at}
+use Rattle.key_sessions.specs.Looks.{keyed_with, listed, listed_at}
 use Rattle.key_sessions.specs.Slots.{EachStands, IsStage, SlotStands, SlotsStand, all_slots, is_keyed_stage, is_open_stage}
 use Rattle.key_sessions.specs.internal.Numbers.{chooses, picks}
 

@@ -1,5 +1,5 @@
 -- Names as they are kept, byte by byte.
-use Rattle.std.proofs.Common.{◌≡◌, ◌<◌, ◌+◌, ℕ, zero, suc, Bool, true, false, List, [], ◌∷◌, map, take, length, Option, Some, refl, ap, arith, rules, if◌then◌else◌, slice_set, slice_index_or}
+use Rattle.std.proofs.Common.{◌≡◌, ◌<◌, ◌+◌, ℕ, zero, suc, Bool, true, false, List, [], ◌∷◌, map, take, length, Option, Some, refl, ap, arith, if◌then◌else◌, slice_set, slice_index_or}
 use Rattle.std.specs.Prelude.{◌&&◌, nat_le, not}
 use Rattle.std.specs.List.{list_all}
 use Rattle.vpn_base.specs.FileName.{is_file_name, is_name_byte, names_folder}

@@ -1,13 +1,12 @@
 -- Changes of single sessions keep the sessions of a client orderly, and the one that seals open.
-use Rattle.std.proofs.Common.{◌≡◌, ◌≢◌, ◌≤◌, ◌<◌, ℕ, zero, suc, ◌+◌, Bool, true, false, List, [], ◌∷◌, ◌++◌, length, Option, Some, None, refl, ap, sym, ◌∙◌, arith, rules}
+use Rattle.std.proofs.Common.{◌≡◌, ◌≢◌, ◌≤◌, ℕ, zero, suc, Bool, true, false, List, [], ◌∷◌, ◌++◌, length, Option, Some, None, refl, ap, sym, ◌∙◌, arith}
 use Rattle.std.proofs.lemmas.Bool.{false≢true}
 use Rattle.std.proofs.lemmas.Option.{none-some}
 use Rattle.std.specs.Prelude.{◌&&◌, slice_get}
-use Rattle.peer_table.specs.KeySessions.{Session, Keys, Named, Opening, closed, has_keys, is_open, newest, newest_usable}
-use Rattle.peer_table.specs.KeySessions as sessions
-use Rattle.peer_table.specs.Exchange.{is_open_keyed, oldest_of}
+use Rattle.peer_table.specs.KeySessions.{Session, has_keys, is_open, newest_usable}
+use Rattle.peer_table.specs.Exchange.{is_open_keyed}
 use Rattle.peer_table.specs.Orderly.{IsOrderly, all_before_have_keys, how_many, more_if}
-use Rattle.peer_table.specs.Places.{changed_at, earlier, first_place, last_place, later, places_from}
+use Rattle.peer_table.specs.Places.{changed_at, last_place, later}
 use Rattle.key_sessions.specs.Slots.{LastIsOpen}
 
 -- a session that has keys keeps them, and one that was not open with keys is not so now

@@ -1,31 +1,24 @@
 -- The newest session gets another stage.
-use Rattle.std.proofs.Common.{◌≡◌, ◌≢◌, ◌≤◌, ◌<◌, ℕ, zero, suc, ◌+◌, T, Bool, true, false, List, [], ◌∷◌, ◌++◌, length, Option, Some, None, refl, ap, sym, subst, ◌∙◌, arith, rules, slice_set}
+use Rattle.std.proofs.Common.{◌≡◌, ℕ, T, Bool, true, false, List, [], ◌∷◌, ◌++◌, length, Option, Some, None, refl, ap, sym, subst, ◌∙◌, slice_set}
 use Rattle.std.proofs.lemmas.Bool.{false≢true}
-use Rattle.std.proofs.lemmas.Option.{none-some}
-use Rattle.std.specs.Prelude.{◌&&◌, slice_get, is_some, IfSome}
-use Rattle.vpn_base.specs.declared.names.Cipher.{Cipher}
-use Rattle.hmac_kit.specs.declared.derivation.KeyBlock.{KeyBlock}
+use Rattle.std.specs.Prelude.{◌&&◌, slice_get}
 use Rattle.peer_table.specs.KeySessions.{Keys, Session, closed, has_keys, is_keyed, newest, newest_usable, session_at}
 use Rattle.peer_table.specs.KeySessions as sessions
-use Rattle.peer_table.specs.Exchange.{is_open_keyed, oldest_of}
-use Rattle.peer_table.specs.Orderly.{IsOrderly, all_before_have_keys, how_many, more_if}
-use Rattle.peer_table.specs.Places.{changed_at, earlier, first_place, last_place, places_from}
-use Rattle.key_sessions.specs.Changes.{closed_in, exchanged_in, newest_keyed, newest_named, one_too_many}
+use Rattle.peer_table.specs.Places.{changed_at}
+use Rattle.key_sessions.specs.Changes.{newest_named}
 use Rattle.key_sessions.specs.Sessions.{restaged}
 use Rattle.key_sessions.specs.declared.session.Named.{Named}
 use Rattle.key_sessions.specs.declared.slot.Slot.{Slot}
 use Rattle.key_sessions.specs.declared.slot.SlotStage.{SlotStage}
 use Rattle.key_sessions.specs.declared.slot.SlotStage.TheVariants as kept
 use Rattle.key_sessions.specs.declared.slot.Stage.TheVariants as stages
-use Rattle.key_sessions.specs.declared.slot.Change.TheVariants.{Close}
 use Rattle.key_sessions.specs.declared.slots.Slots.{Slots}
 use Rattle.key_sessions.specs.internal.Numbers.{had_keys}
-use Rattle.key_sessions.specs.internal.Steps.{given_at, keyed_stage}
-use Rattle.key_sessions.specs.Slots.{AreSlotsOf, EachStands, HasText, HasTextAt, IsStage, IsWhole, LastIsOpen, SlotStands, SlotsStand, StandsIfThere, all_slots, is_open_stage, newest_stage, stage_seen}
+use Rattle.key_sessions.specs.Slots.{EachStands, HasTextAt, IsStage, IsWhole, SlotStands, SlotsStand, StandsIfThere, all_slots, is_open_stage, newest_stage, stage_seen}
 use Rattle.key_sessions.proofs.Each.{at_end}
-use Rattle.key_sessions.proofs.Orders.{Keeps, changed_elsewhere, changed_length, changed_orderly, changed_there, same_last, still_open}
+use Rattle.key_sessions.proofs.Orders.{Keeps, changed_orderly, still_open}
 use Rattle.key_sessions.proofs.Sets.{both_changed, set_end, whole_still}
-use Rattle.key_sessions.proofs.Usable.{newest_is, newest_stands, same_keys, session_count, some_at}
+use Rattle.key_sessions.proofs.Usable.{newest_is, newest_stands, same_keys}
 
 -- the newest slot has another stage, and all else is as it was
 pub record Restaged {T : Type 0} (stage : SlotStage) (before after : Slots T) : Type 0 where
@@ -54,16 +47,16 @@ restaged_each {T = T} stands_for law stage new_stage before after ss is are none
     let here = newest_stands stands_for before ss are in
     let number = newest_is stands_for before ss are in
     let each = both_changed stands_for (all_slots before) ss (length before.earlier.items) (record before.newest { stage = stage }) (restaged new_stage) are.each
-        (λ s there.
-            let same : here.0 ≡ s = cc (here.1, there) in
-            let stands = subst (SlotStands stands_for before.newest) same here.2 in
-            record {
-              conn = stands.conn;
-              began = stands.began;
-              is_open = opens ∙ stands.is_open;
-              stage = at;
-              text = restaged_text stands_for law before.newest.text s new_stage (same_keys before.newest.stage s.stage stands.stage ∙ none) stands.text;
-            }) in
+    (λ s there.
+    let same : here.0 ≡ s = cc (here.1, there) in
+    let stands = subst (SlotStands stands_for before.newest) same here.2 in
+    record {
+      conn = stands.conn;
+      began = stands.began;
+      is_open = opens ∙ stands.is_open;
+      stage = at;
+      text = restaged_text stands_for law before.newest.text s new_stage (same_keys before.newest.stage s.stage stands.stage ∙ none) stands.text;
+    }) in
     subst (λ (n : ℕ). EachStands stands_for (all_slots after) (changed_at n (restaged new_stage) ss)) (sym number)
     (subst (λ (slots : List (Slot T)). EachStands stands_for slots (changed_at (length before.earlier.items) (restaged new_stage) ss)) (sym (restaged_slots stage before after is)) each)
 

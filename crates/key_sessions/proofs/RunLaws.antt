@@ -1,5 +1,5 @@
 -- Whole runs, one event more at a time.
-use Rattle.std.proofs.Common.{◌≡◌, ◌<◌, ◌≤◌, ◌+◌, ℕ, zero, suc, List, [], ◌∷◌, ◌++◌, length, take, drop, Option, Some, None, refl, ap, sym, ◌∙◌, arith, rules}
+use Rattle.std.proofs.Common.{◌≡◌, ◌+◌, ℕ, zero, suc, List, [], ◌∷◌, ◌++◌, take, drop, Some, refl, ap, sym, ◌∙◌, arith}
 use Rattle.std.specs.Prelude.{slice_get}
 use Rattle.peer_table.specs.Peer.{Peer}
 use Rattle.key_sessions.specs.Runs.{EventAt, after_event, after_events, answer_of, answers_of}
@@ -36,6 +36,7 @@ told_next setup p events i e so_far is =
 pub after_one : (setup : SlotSetup) (p : Peer) (events : List EventAt) (i : ℕ) (e : EventAt) → slice_get events i ≡ Some e →
     after_events setup p (take (i + 1) events) ≡ after_event setup (after_events setup p (take i events)) e
 after_one setup p events i e is = let more : i + 1 ≡ suc i = omega arith in rw more (after_next setup p events i e is)
+
 pub told_one : (setup : SlotSetup) (p : Peer) (events : List EventAt) (i : ℕ) (e : EventAt) (so_far : List SlotAnswer) → slice_get events i ≡ Some e →
     (so_far ++ answer_of setup (after_events setup p (take i events)) e ∷ []) ++ answers_of setup (after_events setup p (take (i + 1) events)) (drop (i + 1) events) ≡
     so_far ++ answers_of setup (after_events setup p (take i events)) (drop i events)

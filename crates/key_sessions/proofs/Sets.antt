@@ -1,5 +1,5 @@
 -- One slot is changed: what stands for the sessions then, and which texts are there.
-use Rattle.std.proofs.Common.{◌≡◌, ◌≢◌, ℕ, zero, suc, ◌+◌, ◌<◌, Bool, true, false, List, [], ◌∷◌, ◌++◌, length, Option, Some, None, refl, ap, sym, ◌∙◌, arith, rules, slice_set}
+use Rattle.std.proofs.Common.{◌≡◌, ◌≢◌, ℕ, zero, suc, ◌<◌, List, [], ◌∷◌, ◌++◌, length, Some, refl, ap, sym, arith, slice_set}
 use Rattle.std.specs.Prelude.{slice_get}
 use Rattle.peer_table.specs.KeySessions.{Session}
 use Rattle.peer_table.specs.Places.{changed_at}

@@ -1,5 +1,5 @@
 -- The calls that change one slot, over all slots and over all sessions.
-use Rattle.std.proofs.Common.{◌≡◌, ◌≢◌, ◌≤◌, ◌<◌, ℕ, zero, suc, ◌+◌, T, Bool, true, false, List, [], ◌∷◌, ◌++◌, length, Option, Some, None, refl, ap, sym, subst, ◌∙◌, arith, rules, slice_set}
+use Rattle.std.proofs.Common.{◌≡◌, ◌≢◌, ◌<◌, ℕ, zero, suc, T, Bool, true, false, List, [], ◌∷◌, ◌++◌, length, Option, Some, None, refl, ap, sym, subst, ◌∙◌, arith, slice_set}
 use Rattle.std.proofs.lemmas.Bool.{false≢true}
 use Rattle.std.proofs.lemmas.Option.{none-some}
 use Rattle.std.specs.Prelude.{◌&&◌, slice_get, is_some, IfSome}
@@ -18,7 +18,7 @@ use Rattle.key_sessions.specs.declared.slot.Change.{Change}
 use Rattle.key_sessions.specs.declared.slot.Change.TheVariants.{Take, Put, Close}
 use Rattle.key_sessions.specs.declared.slots.Slots.{Slots}
 use Rattle.key_sessions.specs.internal.Steps.{applied, closed_slot, closed_text, given, given_at, text_if}
-use Rattle.key_sessions.specs.Slots.{AreSlotsOf, EachStands, HasText, HasTextAt, IsStage, IsWhole, IsWholeBut, LastIsOpen, SlotStands, SlotsStand, StandsIfThere, all_slots, is_open_stage, newest_stage, stage_seen}
+use Rattle.key_sessions.specs.Slots.{EachStands, HasText, HasTextAt, IsStage, IsWhole, IsWholeBut, LastIsOpen, SlotStands, SlotsStand, StandsIfThere, all_slots, is_open_stage, newest_stage, stage_seen}
 use Rattle.key_sessions.specs.Sessions.{OpeningStands}
 use Rattle.key_sessions.specs.declared.session.KeySession.{KeySession}
 use Rattle.key_sessions.specs.declared.session.Opening.{Opening}
@@ -55,13 +55,13 @@ step_by : {T : Type 0} (stands_for : T → Session → Type 0) (before after : S
     EachStands stands_for (all_slots after) (changed_at n f ss)
 step_by {T = T} stands_for before after ss n change f (Some slot) is changes each_is steps =
     let here = some_at stands_for slot (slice_get ss n)
-        (subst (λ (o : Option (Slot T)). BothAt stands_for o (slice_get ss n)) is (both_at stands_for (all_slots before) ss n each_is)) in
+    (subst (λ (o : Option (Slot T)). BothAt stands_for o (slice_get ss n)) is (both_at stands_for (all_slots before) ss n each_is)) in
     let each = both_changed stands_for (all_slots before) ss n (applied change slot) f each_is
-        (λ s at. let same : here.0 ≡ s = cc (here.1, at) in steps slot s at (subst (SlotStands stands_for slot) same here.2)) in
+    (λ s at. let same : here.0 ≡ s = cc (here.1, at) in steps slot s at (subst (SlotStands stands_for slot) same here.2)) in
     subst (λ (slots : List (Slot T)). EachStands stands_for slots (changed_at n f ss)) (sym (changes.slot slot is)) each
 step_by {T = T} stands_for before after ss n change f None is changes each_is steps =
     let gone = none_here stands_for (slice_get ss n)
-        (subst (λ (o : Option (Slot T)). BothAt stands_for o (slice_get ss n)) is (both_at stands_for (all_slots before) ss n each_is)) in
+    (subst (λ (o : Option (Slot T)). BothAt stands_for o (slice_get ss n)) is (both_at stands_for (all_slots before) ss n each_is)) in
     subst (λ (ts : List Session). EachStands stands_for (all_slots after) ts) (sym (nothing_changed n f ss gone))
     (subst (λ (slots : Slots T). EachStands stands_for (all_slots slots) ss) (sym (changes.none is)) each_is)
 
@@ -85,7 +85,7 @@ pub taken_stands : {T : Type 0} (stands_for : T → Session → Type 0) (before 
 unfolding SlotsStand
 taken_stands {T = T} stands_for before after ss n changes are =
     let each = step_by stands_for before after ss n Take (λ s. s) (slice_get (all_slots before) n) refl changes are.each
-        (λ slot s at stands. record { conn = stands.conn; began = stands.began; is_open = stands.is_open; stage = stands.stage; text = tt }) in
+    (λ slot s at stands. record { conn = stands.conn; began = stands.began; is_open = stands.is_open; stage = stands.stage; text = tt }) in
     record { each = subst (λ (ts : List Session). EachStands stands_for (all_slots after) ts) (as_it_was n ss) each; orderly = are.orderly; sealing = are.sealing }
 
 taken_by : {T : Type 0} (before after : Slots T) (n : ℕ) (o : Option (Slot T)) → slice_get (all_slots before) n ≡ o → Changes Take n before after → IsWhole before → IsWholeBut n after
@@ -367,17 +367,17 @@ retired_gives stands_for before p now n result gave is whole are =
     let behind = retiring_before stands_for before p.sessions n are one.0 in
     ap is_some gave ∙
     close_gives stands_for before p.sessions n are.each whole
-        (open_keyed_at p.sessions n (slice_get p.sessions n) refl are.orderly.keyed behind.1 one.1) ∙
+    (open_keyed_at p.sessions n (slice_get p.sessions n) refl are.orderly.keyed behind.1 one.1) ∙
     ap is_some (sym is)
 
 -- and it stands for it
 pub retired_text : {T : Type 0} (stands_for : T → Session → Type 0) (before : Slots T) (now tran n : ℕ) (result : Option T) →
     result ≡ given_at Close (slice_get (all_slots before) n) → ((p : Peer) → SlotsStand stands_for before p.sessions → p.timers.tran ≡ tran → Some n ≡ retired p now) →
     IfSome result (λ text. (p : Peer) (s : Session) → SlotsStand stands_for before p.sessions → p.timers.tran ≡ tran →
-        session_at p.sessions (retired p now) ≡ Some s → stands_for text s)
+    session_at p.sessions (retired p now) ≡ Some s → stands_for text s)
 retired_text stands_for before now tran n result gave is =
     if_some result _ (λ text some p s are same at.
-        text_stands stands_for Close before p.sessions n text s (sym gave ∙ some) are (ap (session_at p.sessions) (is p are same) ∙ at))
+    text_stands stands_for Close before p.sessions n text s (sym gave ∙ some) are (ap (session_at p.sessions) (is p are same) ∙ at))
 
 each_by : {T : Type 0} (stands_for : T → Session → Type 0) (change : Change T) (slots : Slots T) (ss : List Session) (n : ℕ) (text : T) (s : Session)
     (o : Option (Slot T)) (q : Option Session) → BothAt stands_for o q → given_at change o ≡ Some text → q ≡ Some s → stands_for text s

@@ -1,5 +1,5 @@
 -- Which sessions are usable, told by the slots.
-use Rattle.std.proofs.Common.{◌≡◌, ℕ, zero, suc, ◌+◌, ◌<◌, ◌≤◌, Bool, true, false, List, [], ◌∷◌, ◌++◌, length, take, Option, Some, None, refl, ap, sym, subst, ◌∙◌, arith, rules}
+use Rattle.std.proofs.Common.{◌≡◌, ℕ, zero, suc, ◌<◌, ◌≤◌, Bool, true, false, List, [], ◌∷◌, length, take, Option, Some, None, refl, ap, sym, subst, ◌∙◌, arith}
 use Rattle.std.specs.Prelude.{not, option_map, slice_get, ◌==◌, if◌then◌else◌}
 use Rattle.vpn_base.specs.declared.names.Moment.{Moment}
 use Rattle.vpn_base.specs.declared.names.Timers.{Timers}
@@ -17,7 +17,7 @@ use Rattle.key_sessions.specs.declared.slot.Slot.{Slot}
 use Rattle.key_sessions.specs.declared.slots.Slots.{Slots}
 use Rattle.key_sessions.specs.declared.slot.SlotStage.{SlotStage}
 use Rattle.key_sessions.specs.declared.slot.SlotStage.TheVariants as kept
-use Rattle.key_sessions.specs.Slots.{AreSlotsOf, LastIsOpen, EachStands, IsStage, SlotStands, SlotsStand, all_slots, stage_seen}
+use Rattle.key_sessions.specs.Slots.{AreSlotsOf, LastIsOpen, IsStage, SlotStands, SlotsStand, all_slots, stage_seen}
 use Rattle.key_sessions.specs.Looks.{began_of, newest_as, newest_seen, stage_of}
 use Rattle.key_sessions.specs.internal.Numbers.{had_keys, number_before, number_before_that, number_if}
 use Rattle.key_sessions.proofs.Each.{BothAt, at_end, both_at, same_length}
@@ -204,6 +204,7 @@ last_is_open stands_for slots ss are = are.sealing
 pub cipher_of_is : (p : Peer) (n : ℕ) → newest_usable p.sessions ≡ Some n → cipher_in (slice_get p.sessions n) ≡ cipher_of p
 unfolding cipher_of
 cipher_of_is p n is = sym (ap (λ (o : Option ℕ). cipher_in (session_at p.sessions o)) is)
+
 pub cipher_before : (p : Peer) → newest_usable p.sessions ≡ None → cipher_of p ≡ None
 unfolding cipher_of
 cipher_before p is = ap (λ (o : Option ℕ). cipher_in (session_at p.sessions o)) is

@@ -1,8 +1,7 @@
 -- Looking through all slots, one after the other.
-use Rattle.std.proofs.Common.{◌≡◌, ℕ, zero, suc, ◌+◌, ◌<◌, Bool, true, false, List, [], ◌∷◌, ◌++◌, length, drop, Option, Some, None, refl, ap, sym, ◌∙◌, arith, rules}
-use Rattle.std.specs.Prelude.{slice_get, ◌==◌, ◌&&◌, cond}
-use Rattle.std.specs.List.{find}
-use Rattle.peer_table.specs.KeySessions.{Session, kid_of, with_kid}
+use Rattle.std.proofs.Common.{◌≡◌, ℕ, zero, suc, ◌+◌, Bool, true, false, List, [], ◌∷◌, ◌++◌, length, drop, Some, None, refl, ap, sym, ◌∙◌, arith}
+use Rattle.std.specs.Prelude.{slice_get, ◌==◌, ◌&&◌}
+use Rattle.peer_table.specs.KeySessions.{kid_of, with_kid}
 use Rattle.peer_table.specs.Exchange.{oldest_of}
 use Rattle.peer_table.specs.Places.{before_if, places_from}
 use Rattle.key_sessions.specs.declared.slot.Slot.{Slot}

@@ -1,5 +1,5 @@
 -- What the calls of the slots make of the list of all sessions of a client.
-use Rattle.std.specs.Prelude.{◌≡◌, ℕ, Bool, List, [], ◌∷◌, ◌++◌, Option, Some, None, slice_get}
+use Rattle.std.specs.Prelude.{◌≡◌, ℕ, List, Option, Some, None}
 use Rattle.peer_table.specs.Places.{changed_at, places_from}
 use Rattle.peer_table.specs.KeySessions.{Keyed, Keys, Named, Session, closed, newest, session_at}
 use Rattle.peer_table.specs.Exchange.{is_open_keyed, oldest_of}

@@ -1,5 +1,5 @@
 -- What the calls of the slots that only look answer.
-use Rattle.std.specs.Prelude.{ℕ, Bool, List, [], ◌∷◌, Option, Some, None, option_map, slice_get}
+use Rattle.std.specs.Prelude.{ℕ, List, Option, Some, None, option_map, slice_get}
 use Rattle.vpn_base.specs.declared.names.Cipher.{Cipher}
 use Rattle.vpn_base.specs.declared.names.Conn.{Conn}
 use Rattle.peer_table.specs.KeySessions.{Session, Keys, keys_of, kid_of, newest, newest_session, open_numbers, session_at, with_kid}
@@ -43,6 +43,7 @@ began_of (Some s) = Some (record { 0 = s.began })
 -- an open session as it is listed: its number, key id and connection
 abbrev pub listed_as : ℕ → Session → ℕ × ℕ × Conn
 listed_as n s = (n, kid_of n, s.link.conn)
+
 abbrev pub listed_at : List Session → Option ℕ → Option (ℕ × ℕ × Conn)
 listed_at ss None = None
 listed_at ss (Some n) = option_map (listed_as n) (slice_get ss n)

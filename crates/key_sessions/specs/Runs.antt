@@ -1,5 +1,5 @@
 -- Whole runs of the key sessions of a client: events one after the other, and what each comes to.
-use Rattle.std.specs.Prelude.{ℕ, List, [], ◌∷◌, ◌++◌, length, Option, Some, None, option_map, slice_get}
+use Rattle.std.specs.Prelude.{ℕ, List, [], ◌∷◌, ◌++◌, length, Option, Some, None}
 use Rattle.vpn_base.specs.declared.names.Cipher.{Cipher}
 use Rattle.vpn_base.specs.declared.names.Conn.{Conn}
 use Rattle.vpn_base.specs.declared.names.Moment.{Moment}
@@ -46,6 +46,7 @@ kind_of (Some s) = stage_of s.stage
 abbrev pub named_by : Peer → List ℕ → Option NameFault → Outcome
 named_by p name None = done (record p { name = Some name; sessions = newest_named p.sessions }) Nothing
 named_by p name (Some fault) = done p (BadName fault)
+
 abbrev pub named_at : Peer → List ℕ → Stage → Outcome
 named_at p name Opening = named_by p name (name_fault name p.name)
 named_at p name stage = done p Nothing
@@ -55,15 +56,19 @@ named_at p name stage = done p Nothing
 abbrev pub closing_of : Option Session → SlotAnswer
 closing_of None = Nothing
 closing_of (Some s) = Closed s.link.conn
+
 abbrev pub keyed_by : Peer → Keys → Outcome
 keyed_by p keys = done (record p { sessions = exchanged_in keys p.sessions }) (closing_of (one_closed (newest_keyed keys p.sessions)))
+
 abbrev pub exchanged_by : SlotSetup → Peer → Km2 → Km2 → Option Cipher → Outcome
 exchanged_by setup p client server None = done p NoCipher
 exchanged_by setup p client server (Some cipher) =
     keyed_by p (keys_made client.source server.source setup.client_sid setup.server_sid cipher setup.peer_id)
+
 abbrev pub exchanged_with : SlotSetup → Peer → Km2 → Km2 → Option (List ℕ) → Outcome
 exchanged_with setup p client server None = done p Nothing
 exchanged_with setup p client server (Some pre) = exchanged_by setup p client server (chosen setup.policy client.info)
+
 abbrev pub exchanged_at : SlotSetup → Peer → Km2 → Km2 → Stage → Outcome
 exchanged_at setup p client server Named = exchanged_with setup p client server client.source.pre
 exchanged_at setup p client server stage = done p Nothing
@@ -98,6 +103,7 @@ event_comes setup p now (Look kid) = done p (usable_of (usable_with p.timers now
 -- the client after an event, and the answer
 unfoldable pub after_event : SlotSetup → Peer → EventAt → Peer
 after_event setup p e = (event_comes setup p e.1.0 e.0).peer
+
 unfoldable pub answer_of : SlotSetup → Peer → EventAt → SlotAnswer
 answer_of setup p e = (event_comes setup p e.1.0 e.0).answer
 

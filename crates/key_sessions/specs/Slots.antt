@@ -79,6 +79,7 @@ stage_seen (Opening k) = stages.Opening
 stage_seen (Named k) = stages.Named
 stage_seen (Keyed k) = stages.Keyed
 stage_seen (Closed cipher) = stages.Keyed
+
 unfoldable pub newest_stage : {T : Type 0} → Slots T → Stage
 newest_stage slots = stage_seen slots.newest.stage
 
@@ -88,6 +89,7 @@ name_of (Opening k) = None
 name_of (Named k) = Some k.name
 name_of (Keyed k) = Some k.name
 name_of (Closed cipher) = None
+
 unfoldable pub newest_name : {T : Type 0} → Slots T → Option (List ℕ)
 newest_name slots = name_of slots.newest.stage
 

@@ -44,7 +44,10 @@ impl<T: SessionText> Slots<T> {
     /// The next session begins, which has to have the next number; the newest one has to have keys. It takes
     /// no memory where there is room for one more. At want of memory the session is handed back.
     #[tactic(auto, unfolding(crate::specs::Slots::newest_stage, crate::specs::Slots::newest_number, crate::specs::Slots::room))]
-    pub fn begin_next(&mut self, next: KeySession<T, Opening>) -> Result<(), (KeySession<T, Opening>, NoMemory)>
+    pub fn begin_next(
+        &mut self,
+        next: KeySession<T, Opening>,
+    ) -> Result<(), (KeySession<T, Opening>, NoMemory)>
         requires keyed { newest_stage self.old ≡ stages.Keyed }
         requires number { next.number ≡ newest_number self.old + 1 }
         ensures begun { OnOk result ((ss : List Session) (s : Session) → SlotsStand T.stands_for self.old ss → OpeningStands T.stands_for next s →

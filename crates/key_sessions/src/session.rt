@@ -217,7 +217,7 @@ impl<T: SessionText> KeySession<T, Named> {
         requires { IsSome client.now.source.pre }
         ensures keyed { IfOk result (λ k. (peer_id : ℕ) (cipher : Cipher) (s : Session) → chosen policy.now client.now.info ≡ Some cipher →
             NamedStands T.stands_for self s → KeyedStands T.stands_for k
-                (restaged (sessions.Keyed (keys_made client.now.source server.now.source client_sid server_sid cipher peer_id)) s)) }
+            (restaged (sessions.Keyed (keys_made client.now.source server.now.source client_sid server_sid cipher peer_id)) s)) }
         ensures name { IfOk result (λ k. k.stage.name ≡ self.stage.name) }
         ensures number { IfOk result (λ k. k.number ≡ self.number) }
         ensures judged { is_ok result ≡ is_some (chosen policy.now client.now.info) }

@@ -11,9 +11,9 @@ ghost use Rattle.key_sessions.specs.internal.Numbers.{had_keys, picks};
 ghost use Rattle.key_sessions.specs.internal.Steps.{applied, closed_slot, closed_text, given, keyed_stage, text_if};
 ghost use Rattle.key_sessions.specs.declared.slot.SlotStage.TheVariants as kept;
 
-use hmac_kit::KeyBlock;
 use crate::session::{KeySession, Keyed, Named, Opening};
 use crate::text::{SessionText, conn_of};
+use hmac_kit::KeyBlock;
 use std::mem;
 use vpn_base::{Cipher, Conn, Moment};
 

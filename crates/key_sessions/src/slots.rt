@@ -12,8 +12,8 @@ ghost use Rattle.key_sessions.specs.declared.slot.Stage.TheVariants as stages;
 
 use crate::session::{KeySession, Opening};
 use crate::slot::{Change, Slot, SlotStage, slot_of};
-use hmac_kit::KeyBlock;
 use crate::text::SessionText;
+use hmac_kit::KeyBlock;
 use std::alloc::Global;
 use std::mem;
 use vpn_base::Cipher;

@@ -1,11 +1,9 @@
-use Rattle.std.proofs.Common.{◌≡◌, ℕ, List, ap, sym, subst, ◌∙◌}
-use Rattle.std.specs.Prelude.{IfOk}
-use Rattle.peer_table.specs.Peer.{Peer}
+use Rattle.std.proofs.Common.{ℕ, List, sym, subst}
 use Rattle.key_sessions.specs.Runs.{event_comes, kind_of, named_at}
 use Rattle.peer_table.specs.EngineAnswers.{kept_name}
 use Rattle.peer_table.specs.KeySessions.{newest_session}
 use Rattle.key_sessions.specs.declared.runs.SlotEvent.{SlotEvent}
-use Rattle.key_sessions.specs.internal.Courses.{Comes, IsAt}
+use Rattle.key_sessions.specs.internal.Courses.{Comes}
 use Rattle.key_sessions.proofs.Coming.{ok_so}
 use Rattle.key_sessions.proofs.runs.event_comes.Goals as goal
 
@@ -14,7 +12,7 @@ returns-in-Name-clause-comes c = ok_so c.name_comes.result (λ answer comes p at
     subst (λ (e : SlotEvent). Comes c.args.setup.now.timers c.name_comes.new.slots c.name_comes.new.known answer (event_comes c.args.setup.now p c.args.now.0 e))
     (sym c.in-Name.is)
     (subst (λ (name : List ℕ). Comes c.args.setup.now.timers c.name_comes.new.slots c.name_comes.new.known answer (named_at p (kept_name name) (kind_of (newest_session p.sessions))))
-        c.as_slice.ensures (comes c.args.setup.now.timers p at))) c.name_comes.ensures.comes
+    c.as_slice.ensures (comes c.args.setup.now.timers p at))) c.name_comes.ensures.comes
 
 pub returns-in-Exchange-clause-comes : goal.returns-in-Exchange-clause-comes
 returns-in-Exchange-clause-comes c = λ p at.

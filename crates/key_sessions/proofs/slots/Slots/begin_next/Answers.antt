@@ -1,4 +1,4 @@
-use Rattle.std.proofs.Common.{◌≡◌, ◌∙◌}
+use Rattle.std.proofs.Common.{◌∙◌}
 use Rattle.key_sessions.proofs.Steps.{next_stands, next_whole}
 use Rattle.key_sessions.proofs.slots.Slots.begin_next.Goals as goal
 

@@ -1,4 +1,4 @@
-use Rattle.std.proofs.Common.{◌≡◌, ap, sym, ◌∙◌}
+use Rattle.std.proofs.Common.{ap, sym, ◌∙◌}
 use Rattle.std.specs.Option.{option_copied}
 use Rattle.peer_table.specs.Exchange.{cipher_in}
 use Rattle.key_sessions.proofs.Usable.{none_at, stands_at}

@@ -1,5 +1,3 @@
-use Rattle.std.proofs.Common.{◌≡◌, Some, None, ap, sym, ◌∙◌}
-use Rattle.key_sessions.specs.Looks.{newest_as, newest_seen}
 use Rattle.key_sessions.proofs.Usable.{newest_seen_is}
 use Rattle.key_sessions.proofs.slots.Slots.newest.Goals as goal
 

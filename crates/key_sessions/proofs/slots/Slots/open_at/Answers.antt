@@ -1,4 +1,4 @@
-use Rattle.std.proofs.Common.{◌≡◌, Some, None, ap, sym, ◌∙◌, refl}
+use Rattle.std.proofs.Common.{Some, None, sym, ◌∙◌}
 use Rattle.key_sessions.proofs.Listed.{few_listed, listed_is}
 use Rattle.key_sessions.proofs.slots.Slots.open_at.Goals as goal
 
