@@ -1,0 +1,4 @@
+pub mod Appending
+pub mod FileFronts
+pub mod NextLine
+pub mod Standing

@@ -1,0 +1,14 @@
+//! The outside of a replay: its events come from a schedule, and its effects go to a sink as lines.
+#![tactic(auto)]
+
+mod end;
+mod events;
+mod file;
+mod links;
+mod reading;
+mod schedule;
+mod writing;
+
+pub use end::ReplayEnd;
+pub use links::ReplayLinks;
+pub use reading::{LONGEST_FILE, LineFault};
