@@ -1,6 +1,6 @@
 //! Links of a replay.
 
-ghost use Rattle.std.specs.Prelude.{◌≡◌, ◌+◌, ◌-◌, ◌<◌, ◌≤◌, ◌^◌, ◌++◌, ℕ, List, [], ◌∷◌, length, take, true, false, None, Some, MatchOption, IfOk, IfErr, OnOk, OnErr, IsTrue, IfSome};
+ghost use Rattle.std.specs.Prelude.{◌≡◌, ◌+◌, ◌-◌, ◌<◌, ◌≤◌, ◌^◌, ◌++◌, ℕ, List, [], ◌∷◌, length, take, true, false, None, Some, MatchBool, MatchOption, IfOk, IfErr, OnOk, OnErr, IsTrue, IfSome};
 ghost use Rattle.vpn_base.specs.Answers.{IfWhy, Rose};
 ghost use Rattle.vpn_base.specs.Files.{IsMissing};
 ghost use Rattle.vpn_links.specs.Actions.{action, is_wire};
@@ -10,6 +10,9 @@ ghost use Rattle.vpn_links.specs.declared.events.Event.{Event};
 ghost use Rattle.vpn_links.specs.declared.links.LinkFault.{LinkFault};
 ghost use Rattle.replay_links.specs.Fronts.{IsFrontOf};
 ghost use Rattle.replay_links.specs.Schedule.{spells};
+ghost use Rattle.replay_links.specs.declared.end.ReplayEnd.TheVariants as ends;
+ghost use Rattle.vpn_base.specs.declared.outside.FileFault.{FileFault};
+ghost use Rattle.vpn_links.specs.declared.events.Kind.TheVariants.{Halt};
 
 use crate::end::ReplayEnd;
 use crate::events::Events;
@@ -106,5 +109,130 @@ impl<F: Files, S: Sink> ReplayLinks<F, S> {
     {
         let ReplayLinks { files, out, .. } = self;
         (files, out)
+    }
+}
+
+// The schedule of a name: its text, its events, and the fault behind them.
+#[derive(Drop)]
+struct Schedule {
+    text: Vec<u8>,
+    events: Events,
+    fault: Option<LineFault>,
+}
+
+fn read_schedule<F: Files>(
+    alloc: Global,
+    name: &[u8],
+    files: &mut F,
+) -> Result<Schedule, Or<FileFault>>
+    ensures front { IfOk result (λ s. IsFrontOf (F.holds files.old name.now) s.text.items) }
+    ensures spelled { IfOk result (λ s. spells s.text.items ≡ record { events = s.events; fault = s.fault }) }
+    ensures missing { IfErr result (λ e. IfWhy e (λ k. k ≡ FileFault.Missing → IsMissing (F.holds files.old name.now))) }
+    ensures failed { IfErr result (λ e. IfWhy e (λ k. k ≡ FileFault.Failed → Rose (F.faults files.old) (F.faults files.new))) }
+    ensures kept { (n : List ℕ) → F.holds files.new n ≡ F.holds files.old n }
+    ensures never_falls { F.faults files.old ≤ F.faults files.new }
+{
+    let text = match read_file(alloc, name, files) {
+        Ok(text) => text,
+        Err(fault) => return Err(fault),
+    };
+    let Ok(spelling) = spell(alloc, &text) else {
+        return Err(Or::Memory);
+    };
+    Ok(Schedule {
+        text,
+        events: spelling.events,
+        fault: spelling.fault,
+    })
+}
+
+fn is_missing(ended: Option<ReplayEnd>) -> bool
+    ensures { MatchBool result (ended ≡ Some ends.Missing) (ended ≡ Some ends.Missing → ⊥) }
+{
+    match ended {
+        Some(ReplayEnd::Missing) => true,
+        _ => false,
+    }
+}
+
+// The event that ends the program, again.
+fn halt_at(now: Moment) -> Event
+    ensures { result.kind ≡ Halt }
+{
+    Event {
+        now,
+        draw: Draw([0; 120]),
+        kind: Kind::Halt,
+    }
+}
+
+impl<F: Files, S: Sink> ReplayLinks<F, S> {
+    ghost use Rattle.replay_links.specs.Replay.{ReplayStands, ground_of, replay_faults};
+    ghost use Rattle.replay_links.specs.declared.end.ReplayEnd.TheVariants as ends;
+
+    // There is no schedule of the name.
+    fn miss(&mut self) -> LinkFault
+        ensures same { result ≡ LinkFault.Input }
+        ensures new { self.new ≡ record self.old { missing = self.new.missing; ended = Some ends.Missing } }
+        ensures counted { Rose self.old.missing self.new.missing }
+        ensures never_falls { self.old.missing ≤ self.new.missing }
+    {
+        self.missing = self.missing.saturating_add(1);
+        self.ended = Some(ReplayEnd::Missing);
+        LinkFault::Input
+    }
+
+    // A line of the schedule is refused.
+    fn refuse(&mut self, fault: LineFault) -> LinkFault
+        ensures same { result ≡ LinkFault.Schedule }
+        ensures new { self.new ≡ record self.old { refused = self.new.refused; ended = Some (ends.Refused fault.line fault.kind) } }
+        ensures counted { Rose self.old.refused self.new.refused }
+        ensures never_falls { self.old.refused ≤ self.new.refused }
+    {
+        self.refused = self.refused.saturating_add(1);
+        self.ended = Some(ReplayEnd::Refused {
+            line: fault.line,
+            kind: fault.kind,
+        });
+        LinkFault::Schedule
+    }
+
+    // Keeps a schedule that was read.
+    fn keep(&mut self, schedule: Schedule)
+        ensures { self.new ≡ record self.old { is_open = true; text = schedule.text.items; left = schedule.events; fault = schedule.fault } }
+    {
+        self.text = schedule.text;
+        self.left = schedule.events;
+        self.fault = schedule.fault;
+        self.is_open = true;
+    }
+
+    // Reads the schedule, if that was not done yet.
+    fn open(&mut self) -> Result<(), Or<LinkFault>>
+        ensures opened { OnOk result (self.new.is_open ≡ true) }
+        ensures stands { (l : List Round) → ReplayStands F.holds S.contents self.old l → ReplayStands F.holds S.contents self.new l }
+        ensures input { IfErr result (λ e. IfWhy e (λ k. k ≡ LinkFault.Input)) }
+        ensures failed { IfErr result (λ e. IfWhy e (λ k. Rose (replay_faults F.faults S.faults self.old k) (replay_faults F.faults S.faults self.new k))) }
+        ensures never_falls { (k : LinkFault) → replay_faults F.faults S.faults self.old k ≤ replay_faults F.faults S.faults self.new k }
+        ensures ground { ground_of F.holds S.contents self.new ≡ ground_of F.holds S.contents self.old }
+    {
+        if self.is_open {
+            return Ok(());
+        }
+        if is_missing(self.ended) {
+            return Err(Or::Why(self.miss()));
+        }
+        match read_schedule(self.alloc, self.name.as_slice(), &mut self.files) {
+            Ok(schedule) => {
+                self.keep(schedule);
+                Ok(())
+            }
+            Err(Or::Memory) => Err(Or::Memory),
+            Err(Or::Why(FileFault::Missing)) => Err(Or::Why(self.miss())),
+            Err(Or::Why(FileFault::Failed)) => {
+                self.ended = Some(ReplayEnd::Failed);
+                Err(Or::Why(LinkFault::Input))
+            }
+        }
     }
 }
