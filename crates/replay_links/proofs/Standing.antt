@@ -299,3 +299,15 @@ stands_cut holding contents now r next rounds a last n number uncut within wrote
       no_file = s.no_file;
       a_line = s.a_line;
     })
+
+-- ---- the same, by the parts that change
+
+pub gave_within : {F S : Type 0} (holding : Holding) (contents : Option (List ℕ)) (r : Replay F S) (rounds : List Round) (e : Event) (later : List Event) (n : ℕ) →
+    r.is_open ≡ true → r.left ≡ e ∷ later → n ≡ r.given + 1 → StandsFor holding contents r rounds → StandsFor holding contents (record r { left = later; given = n }) (came rounds e)
+gave_within holding contents r rounds e later n opened first count s =
+    stands_within holding contents r (record r { left = later; given = n }) rounds e opened first (ap (λ (m : ℕ). record r { left = later; given = m }) count) s
+
+pub gave_beyond : {F S : Type 0} (holding : Holding) (contents : Option (List ℕ)) (r : Replay F S) (rounds : List Round) (e : Event) (later : List Event) (n : ℕ) →
+    r.is_open ≡ true → r.left ≡ [] → later ≡ [] → r.fault ≡ None → e.kind ≡ Halt → n ≡ r.given + 1 → StandsFor holding contents r rounds → StandsFor holding contents (record r { left = later; given = n }) (came rounds e)
+gave_beyond holding contents r rounds e later n opened none empty right halt count s =
+    rw empty (rw (sym none) (stands_beyond holding contents r (record r { given = n }) rounds e opened none right halt (ap (λ (m : ℕ). record r { given = m }) count) s))

@@ -40,6 +40,7 @@ pub struct ReplayLinks<F: Files, S: Sink> {
     left: Events,
     fault: Option<LineFault>,
     given: u64,
+    last: Moment,
     is_cut: bool,
     missing: u64,
     refused: u64,
@@ -89,6 +90,7 @@ impl<F: Files, S: Sink> ReplayLinks<F, S> {
             left: Events::new(alloc),
             fault: None,
             given: 0,
+            last: Moment(0),
             is_cut: false,
             missing: 0,
             refused: 0,
@@ -155,6 +157,13 @@ fn is_missing(ended: Option<ReplayEnd>) -> bool
     }
 }
 
+// One more, if that can be counted.
+fn one_more(count: u64) -> Option<u64>
+    ensures { IfSome result (λ n. n ≡ count + 1) }
+{
+    count.checked_add(1)
+}
+
 // The event that ends the program, again.
 fn halt_at(now: Moment) -> Event
     ensures { result.kind ≡ Halt }
@@ -169,6 +178,8 @@ fn halt_at(now: Moment) -> Event
 impl<F: Files, S: Sink> ReplayLinks<F, S> {
     ghost use Rattle.replay_links.specs.Replay.{ReplayStands, ground_of, replay_faults};
     ghost use Rattle.replay_links.specs.declared.end.ReplayEnd.TheVariants as ends;
+    ghost use Rattle.replay_links.specs.internal.Cuts.{Cut, MatchOr};
+    ghost use Rattle.vpn_base.specs.Sink.{appended};
 
     // There is no schedule of the name.
     fn miss(&mut self) -> LinkFault
@@ -234,5 +245,57 @@ impl<F: Files, S: Sink> ReplayLinks<F, S> {
                 Err(Or::Why(LinkFault::Input))
             }
         }
+    }
+
+    // Gives the next event of a schedule that was read.
+    fn take_event(&mut self) -> Result<Event, Or<LinkFault>>
+        requires { self.old.is_open ≡ true }
+        ensures given { IfOk result (λ e. (l : List Round) → ReplayStands F.holds S.contents self.old l → ReplayStands F.holds S.contents self.new (came l e)) }
+        ensures refused { OnErr result ((l : List Round) → ReplayStands F.holds S.contents self.old l → ReplayStands F.holds S.contents self.new l) }
+        ensures datagram { IfOk result (λ e. IsOfLine e.kind) }
+        ensures schedule { IfErr result (λ e. IfWhy e (λ k. k ≡ LinkFault.Schedule)) }
+        ensures counted { IfErr result (λ e. IfWhy e (λ k. Rose self.old.refused self.new.refused)) }
+        ensures never_falls { self.old.refused ≤ self.new.refused }
+        ensures kept { (self.new.files ≡ self.old.files) × (self.new.out ≡ self.old.out) × (self.new.name ≡ self.old.name)
+            × (self.new.written ≡ self.old.written) × (self.new.missing ≡ self.old.missing) }
+    {
+        let Some(given) = one_more(self.given) else {
+            return Err(Or::Memory);
+        };
+        match self.left.take_first() {
+            Some(event) => {
+                self.given = given;
+                self.last = event.now;
+                Ok(event)
+            }
+            None => match self.fault {
+                None => {
+                    self.given = given;
+                    Ok(halt_at(self.last))
+                }
+                Some(fault) => Err(Or::Why(self.refuse(fault))),
+            },
+        }
+    }
+
+    // Writes the line of an effect of the last event.
+    fn write_line(&mut self, line: &[u8]) -> Result<(), Or<LinkFault>>
+        requires { self.old.is_cut ≡ false }
+        ensures ok { OnOk result ((S.contents self.new.out ≡ appended (S.contents self.old.out) line.now)
+            × (self.new ≡ record self.old { out = self.new.out; written = self.old.written + length line.now })) }
+        ensures err { IfErr result (λ e. MatchOr e (self.new ≡ self.old) (λ k. (k ≡ LinkFault.Output)
+            × Rose (S.faults self.old.out) (S.faults self.new.out) × Cut (S.contents self.old.out) (S.contents self.new.out) self.old self.new line.now)) }
+        ensures never_falls { S.faults self.old.out ≤ S.faults self.new.out }
+    {
+        if self.written.checked_add(line.len() as u64).is_none() {
+            return Err(Or::Memory);
+        }
+        let written = write_front(&mut self.out, line);
+        self.written += written as u64;
+        if written < line.len() {
+            self.is_cut = true;
+            return Err(Or::Why(LinkFault::Output));
+        }
+        Ok(())
     }
 }
