@@ -7,7 +7,7 @@ use Rattle.vpn_base.specs.Sink.{appended}
 use Rattle.vpn_links.specs.Actions.{Action}
 use Rattle.vpn_links.specs.Rounds.{Given, Round, came, gave}
 use Rattle.vpn_links.specs.declared.events.Event.{Event}
-use Rattle.replay_links.specs.Replay.{AllHalt, Beyond, Came, Caused, HasGiven, IsPart, IsRefused, Replay, StandsFor, Within, Wrote, begun_of, came_in, effect_lines, transcript, transcript_from, without_last}
+use Rattle.replay_links.specs.Replay.{AllHalt, Beyond, Came, Caused, HasGiven, IsPart, IsRefused, Replay, ReplayStands, StandsFor, Within, Wrote, begun_of, came_in, effect_lines, transcript, transcript_from, without_last}
 use Rattle.vpn_base.specs.Files.{IsMissing}
 use Rattle.vpn_links.specs.declared.events.Kind.TheVariants.{Halt}
 use Rattle.schedule_text.specs.EffectLine.{effect_line}
@@ -16,6 +16,7 @@ use Rattle.replay_links.specs.declared.end.ReplayEnd.{ReplayEnd}
 use Rattle.replay_links.specs.declared.end.ReplayEnd.TheVariants as ends
 use Rattle.replay_links.specs.Fronts.{IsFrontOf}
 use Rattle.replay_links.specs.Schedule.{Spelled, spells}
+use Rattle.replay_links.specs.internal.Cuts.{Cut}
 use Rattle.replay_links.proofs.Appending.{appended-appended, appended-nil}
 
 -- nothing was written yet
@@ -311,3 +312,25 @@ pub gave_beyond : {F S : Type 0} (holding : Holding) (contents : Option (List �
     r.is_open ≡ true → r.left ≡ [] → later ≡ [] → r.fault ≡ None → e.kind ≡ Halt → n ≡ r.given + 1 → StandsFor holding contents r rounds → StandsFor holding contents (record r { left = later; given = n }) (came rounds e)
 gave_beyond holding contents r rounds e later n opened none empty right halt count s =
     rw empty (rw (sym none) (stands_beyond holding contents r (record r { given = n }) rounds e opened none right halt (ap (λ (m : ℕ). record r { given = m }) count) s))
+
+-- a line was written whole, by what files and sink tell
+pub line_given : {F S : Type 0} (holds : F → List ℕ → Holding) (contents : S → Option (List ℕ)) (r next : Replay F S) (rounds : List Round) (a : Action) (line : List ℕ) (last : ℕ) →
+    line ≡ effect_line last a → last + 1 ≡ r.given → r.is_cut ≡ false → contents next.out ≡ appended (contents r.out) line → next ≡ record r { out = next.out; written = r.written + length line } →
+    ReplayStands holds contents r rounds → ReplayStands holds contents next (gave rounds (record { action = a; is_lost = false }))
+line_given holds contents r next rounds a line last written number uncut wrote is s =
+    let same = ap (λ (x : Replay _ _). holds x.files x.name) is in
+    subst (λ (h : Holding). StandsFor h (contents next.out) next (gave rounds (record { action = a; is_lost = false }))) (sym same)
+    (stands_given (holds r.files r.name) (contents r.out) (contents next.out) r next rounds a last number uncut
+    (wrote ∙ ap (appended (contents r.out)) written)
+    (is ∙ ap (λ (n : ℕ). record r { out = next.out; written = r.written + n }) (ap length written)) s)
+
+-- a line was cut, by what files and sink tell
+pub line_cut : {F S : Type 0} (holds : F → List ℕ → Holding) (contents : S → Option (List ℕ)) (r next : Replay F S) (rounds : List Round) (a : Action) (line : List ℕ) (last : ℕ) →
+    line ≡ effect_line last a → last + 1 ≡ r.given → r.is_cut ≡ false → Cut (contents r.out) (contents next.out) r next line →
+    ReplayStands holds contents r rounds → ReplayStands holds contents next rounds
+line_cut holds contents r next rounds a line last written number uncut cut s =
+    let same = ap (λ (x : Replay _ _). holds x.files x.name) cut.same in
+    subst (λ (h : Holding). StandsFor h (contents next.out) next rounds) (sym same)
+    (stands_cut (holds r.files r.name) (contents r.out) (contents next.out) r next rounds a last cut.n number uncut
+    (subst (λ (l : List ℕ). cut.n ≤ length l) written cut.within)
+    (cut.wrote ∙ ap (λ (l : List ℕ). appended (contents r.out) (take cut.n l)) written) cut.same s)

@@ -299,3 +299,58 @@ impl<F: Files, S: Sink> ReplayLinks<F, S> {
         Ok(())
     }
 }
+
+fn replace(into: &mut Event, event: Event)
+    ensures { into.new ≡ event }
+{
+    *into = event;
+}
+
+impl<F: Files, S: Sink> Links for ReplayLinks<F, S> {
+    ghost use Rattle.replay_links.specs.Replay.{Ground, ReplayStands, ground_of, replay_faults};
+
+    ghost Origin = { Ground };
+
+    ghost origin_of = { λ r. ground_of F.holds S.contents r };
+
+    ghost started = { λ _. Untold };
+
+    ghost stands = { λ r l. ReplayStands F.holds S.contents r l };
+
+    ghost faults = { λ r k. replay_faults F.faults S.faults r k };
+
+    fn start(&mut self, plan: &Plan) -> Result<(), Or<LinkFault>> {
+        let _ = plan;
+        Ok(())
+    }
+
+    fn next(&mut self, into: &mut Event) -> Result<(), Or<LinkFault>> {
+        if let Err(fault) = self.open() {
+            return Err(fault);
+        }
+        match self.take_event() {
+            Ok(event) => {
+                replace(into, event);
+                Ok(())
+            }
+            Err(fault) => Err(fault),
+        }
+    }
+
+    fn give(&mut self, e: &Effect<'_>) -> Result<(), Or<LinkFault>> {
+        if self.given == 0 {
+            return Ok(());
+        }
+        if self.is_cut {
+            return Err(Or::Memory);
+        }
+        let Ok(line) = write_effect_line(self.alloc, self.given - 1, e) else {
+            return Err(Or::Memory);
+        };
+        match self.write_line(line.as_slice()) {
+            Ok(()) => Ok(()),
+            Err(Or::Memory) => Err(Or::Memory),
+            Err(Or::Why(_)) => Err(Or::Why(LinkFault::Output)),
+        }
+    }
+}
