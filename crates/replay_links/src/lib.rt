@@ -12,3 +12,6 @@ mod writing;
 pub use end::ReplayEnd;
 pub use links::ReplayLinks;
 pub use reading::{LONGEST_FILE, LineFault};
+
+#[cfg(test)]
+mod tests;
