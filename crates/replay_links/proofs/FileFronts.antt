@@ -1,5 +1,5 @@
 -- The front of a file, piece by piece.
-use Rattle.std.proofs.Common.{◌≡◌, ℕ, ◌+◌, ◌-◌, ◌^◌, ◌<◌, ◌≤◌, List, [], ◌++◌, length, take, drop, refl, ap, sym, ◌∙◌, subst, arith, take-add, take_all, length-append, length-take-le, length-drop}
+use Rattle.std.proofs.Common.{◌≡◌, ℕ, ◌+◌, ◌^◌, ◌<◌, ◌≤◌, List, ◌++◌, length, take, ap, sym, ◌∙◌, arith, take-add, take_all, length-append, length-take-le}
 use Rattle.std.proofs.lemmas.List.{append-nil, take-take}
 use Rattle.vpn_base.specs.Files.{Holding, Untold, Absent, Held, Copied}
 use Rattle.replay_links.specs.Fronts.{IsAll, IsFrontOf, ReadFrom}

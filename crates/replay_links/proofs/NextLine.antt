@@ -1,10 +1,10 @@
 -- The next line of a schedule.
-use Rattle.std.proofs.Common.{◌≡◌, ℕ, ◌+◌, ◌-◌, ◌<◌, List, [], ◌∷◌, length, refl, ap, sym, ◌∙◌, arith, append-nil, Some, None}
+use Rattle.std.proofs.Common.{◌≡◌, ℕ, ◌-◌, List, [], ◌∷◌, length, refl, ap, ◌∙◌, arith, append-nil, Some}
 use Rattle.vpn_base.specs.Lines.{BeginsWith, Line, content, lines_of, size}
 use Rattle.vpn_links.specs.declared.events.Event.{Event}
 use Rattle.schedule_text.specs.declared.kind.TextKind.TheVariants as kinds
 use Rattle.replay_links.specs.declared.reading.Reading.{Reading}
-use Rattle.replay_links.specs.Schedule.{Spelled, behind_events, judged, spelled_at, spelled_from}
+use Rattle.replay_links.specs.Schedule.{behind_events, judged, spelled_at, spelled_from}
 
 one_line : (r : Reading) (line : Line) (more : List Line) →
     spelled_from (line ∷ more) r ≡ spelled_at r (size line) (judged r (size line) (content line)) (spelled_from more)

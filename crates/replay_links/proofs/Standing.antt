@@ -1,5 +1,5 @@
 -- What links of a replay stand for, as they go on.
-use Rattle.std.proofs.Common.{◌≡◌, ℕ, zero, suc, ◌+◌, ◌-◌, ◌<◌, ◌≤◌, Bool, true, false, List, [], ◌∷◌, ◌++◌, length, take, map, refl, ap, sym, ◌∙◌, subst, arith, append_assoc, append-nil, take_all, length-append, Some, None, Option, if◌then◌else◌, ap₂, leb-false, leb-true, le-leb, length-take-le, lt_of_lt_of_le, nat_le}
+use Rattle.std.proofs.Common.{◌≡◌, ℕ, suc, ◌+◌, ◌-◌, ◌<◌, ◌≤◌, Bool, true, false, List, [], ◌∷◌, ◌++◌, length, take, refl, ap, sym, ◌∙◌, subst, arith, append_assoc, append-nil, take_all, length-append, Some, None, Option, if◌then◌else◌, ap₂, leb-false, leb-true, le-leb, length-take-le, lt_of_lt_of_le, nat_le}
 use Rattle.std.proofs.lemmas.Bool.{false_from_ne_true, false≢true}
 use Rattle.std.proofs.lemmas.List.{map-append, take-append-le}
 use Rattle.vpn_base.specs.Files.{Holding}
@@ -111,6 +111,7 @@ stands_within holding contents r next rounds e opened first is s =
     came_on : (holding : Holding) (is_open : Bool) (text : List ℕ) (left later : List Event) (fault : Option LineFault) (came_so now : List Event) (e : Event) → is_open ≡ true → left ≡ e ∷ later → now ≡ came_so ++ e ∷ [] → Came holding is_open text left fault came_so → Came holding is_open text later fault now
     came_on holding false text left later fault came_so now e opened first grown so = absurd (false≢true opened)
     came_on holding true text left later fault came_so now e opened first grown so = (so.0, rw grown (given_within (spells text) came_so left later e first so.1), so.2)
+
     cause_later : (holding : Holding) (is_open : Bool) (left later : List Event) (fault : Option LineFault) (e : Event) → left ≡ e ∷ later → (x : Option ReplayEnd) → Caused holding is_open left fault x → Caused holding is_open later fault x
     cause_later holding is_open left later fault e first None c = tt
     cause_later holding is_open left later fault e first (Some ends.Missing) c = c
@@ -218,8 +219,8 @@ take-minus held more written true fits =
 take-minus held more written false past =
     let beyond : length held < written = leb-false written (length held) past in
     let later : nat_le (written + length more) (length (held ++ more)) ≡ false =
-        false_from_ne_true (nat_le (written + length more) (length (held ++ more)))
-        (λ fits. omega (arith, leb-true (written + length more) (length (held ++ more)) fits, length-append held more, beyond)) in
+    false_from_ne_true (nat_le (written + length more) (length (held ++ more)))
+    (λ fits. omega (arith, leb-true (written + length more) (length (held ++ more)) fits, length-append held more, beyond)) in
     ap (λ b. if b then take (length (held ++ more) - (written + length more)) (held ++ more) else []) later
     ∙ sym (ap (λ b. if b then take (length held - written) held else []) past)
 

@@ -1,7 +1,9 @@
 -- Links of a replay, and the events and effects for which they stand.
-use Rattle.std.specs.Prelude.{◌≡◌, ℕ, suc, ◌+◌, ◌-◌, ◌<◌, ◌≤◌, nat_le, Bool, true, false, List, [], ◌∷◌, ◌++◌, length, take, map, Option, Some, None, option_map, if◌then◌else◌}
-use Rattle.vpn_base.specs.Files.{Holding, Untold, IsMissing}
+use Rattle.std.specs.Prelude.{◌≡◌, ℕ, suc, ◌+◌, ◌-◌, ◌^◌, ◌<◌, ◌⊎◌, nat_le, Bool, true, false, List, [], ◌∷◌, ◌++◌, length, take, map, Option, Some, None, option_map, Result, Ok, Err, if◌then◌else◌}
+use Rattle.vpn_base.specs.Files.{Holding, IsMissing}
 use Rattle.vpn_base.specs.Sink.{appended}
+use Rattle.vpn_base.specs.declared.errors.Or.{Or}
+use Rattle.vpn_base.specs.declared.errors.Or.TheVariants.{Memory, Why}
 use Rattle.vpn_links.specs.Actions.{Action}
 use Rattle.vpn_links.specs.Rounds.{Given, Round}
 use Rattle.vpn_links.specs.declared.events.Event.{Event}
@@ -130,13 +132,26 @@ ReplayStands holds contents r rounds = StandsFor (holds r.files r.name) (content
 abbrev pub ground_of : {F S : Type 0} → (F → List ℕ → Holding) → (S → Option (List ℕ)) → Replay F S → Ground
 ground_of holds contents r = record { name = r.name; holding = holds r.files r.name; begun = begun_of (contents r.out) r.written }
 
--- how often each part failed, by the counts of files and sink
-abbrev pub fault_count : ℕ → ℕ → ℕ → ℕ → LinkFault → ℕ
-fault_count files out missing refused faults.Input = files + missing
-fault_count files out missing refused faults.Output = out
-fault_count files out missing refused faults.Schedule = refused
-fault_count files out missing refused _ = 0
+-- one more than the sink's failures as long as no line is cut, and then just those, unless they can't be counted any more: as it never falls, they rose where a line is cut
+abbrev pub before_cut : Bool → ℕ → ℕ
+before_cut false out = out + 1
+before_cut true out = if nat_le (2 ^ 64 - 1) out then out + 1 else out
+
+-- how often each part failed, by the counts of files and sink; that of parts which a replay does not have tells of a cut line
+abbrev pub fault_count : ℕ → ℕ → ℕ → ℕ → ℕ → LinkFault → ℕ
+fault_count files out uncut missing refused faults.Input = files + missing
+fault_count files out uncut missing refused faults.Output = out
+fault_count files out uncut missing refused faults.Schedule = refused
+fault_count files out uncut missing refused _ = uncut
 
 -- the same of the links
 abbrev pub replay_faults : {F S : Type 0} → (F → ℕ) → (S → ℕ) → Replay F S → LinkFault → ℕ
-replay_faults files out r k = fault_count (files r.files) (out r.out) r.missing r.refused k
+replay_faults files out r k = fault_count (files r.files) (out r.out) (before_cut r.is_cut (out r.out)) r.missing r.refused k
+
+-- why the last event did not come, after a call that asked for one
+abbrev pub EndsBy : {A : Type 0} → Result A (Or LinkFault) → Option ReplayEnd → Option ReplayEnd → Type 0
+EndsBy (Ok x) before now = now ≡ before
+EndsBy (Err Memory) before now = now ≡ before
+EndsBy (Err (Why faults.Input)) before now = (now ≡ Some ends.Missing) ⊎ (now ≡ Some ends.Failed)
+EndsBy (Err (Why faults.Schedule)) before now = IsRefused now
+EndsBy (Err (Why _)) before now = ⊥

@@ -10,7 +10,7 @@ mod schedule;
 mod writing;
 
 pub use end::ReplayEnd;
-pub use links::ReplayLinks;
+pub use links::{ReplayLinks, a_cut_is_a_failure};
 pub use reading::{LONGEST_FILE, LineFault};
 
 #[cfg(test)]

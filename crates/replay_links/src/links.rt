@@ -1,14 +1,16 @@
 //! Links of a replay.
 
-ghost use Rattle.std.specs.Prelude.{◌≡◌, ◌+◌, ◌-◌, ◌<◌, ◌≤◌, ◌^◌, ◌++◌, ℕ, List, [], ◌∷◌, length, take, true, false, None, Some, MatchBool, MatchOption, IfOk, IfErr, OnOk, OnErr, IsTrue, IfSome};
+ghost use Rattle.std.specs.Prelude.{◌≡◌, ◌+◌, ◌-◌, ◌<◌, ◌≤◌, ◌^◌, ◌++◌, ℕ, List, [], ◌∷◌, length, take, true, false, None, Some, MatchBool, MatchOption, IfOk, IfErr, OnOk, OnErr, Ok, Err, IsTrue, IfSome};
 ghost use Rattle.vpn_base.specs.Answers.{IfWhy, Rose};
 ghost use Rattle.vpn_base.specs.Files.{IsMissing};
+ghost use Rattle.vpn_base.specs.declared.errors.Or.{Or};
 ghost use Rattle.vpn_links.specs.Actions.{action, is_wire};
 ghost use Rattle.vpn_links.specs.Rounds.{IsOfLine, Round, after_give, came};
-ghost use Rattle.vpn_links.specs.Starts.{Untold};
+ghost use Rattle.vpn_links.specs.Starts.{Untold, started_with};
 ghost use Rattle.vpn_links.specs.declared.events.Event.{Event};
 ghost use Rattle.vpn_links.specs.declared.links.LinkFault.{LinkFault};
 ghost use Rattle.replay_links.specs.Fronts.{IsFrontOf};
+ghost use Rattle.replay_links.specs.Replay.{before_cut};
 ghost use Rattle.replay_links.specs.Schedule.{spells};
 ghost use Rattle.replay_links.specs.declared.end.ReplayEnd.TheVariants as ends;
 ghost use Rattle.vpn_base.specs.declared.outside.FileFault.{FileFault};
@@ -105,6 +107,13 @@ impl<F: Files, S: Sink> ReplayLinks<F, S> {
         self.ended
     }
 
+    /// Whether the sink failed within the line of an effect, so that no further line is written.
+    pub fn is_cut(&self) -> bool
+        ensures { result ≡ self.now.is_cut }
+    {
+        self.is_cut
+    }
+
     /// The files and the sink.
     pub fn parts(self) -> (F, S)
         ensures { (result.0 ≡ self.files) × (result.1 ≡ self.out) }
@@ -176,7 +185,7 @@ fn halt_at(now: Moment) -> Event
 }
 
 impl<F: Files, S: Sink> ReplayLinks<F, S> {
-    ghost use Rattle.replay_links.specs.Replay.{ReplayStands, ground_of, replay_faults};
+    ghost use Rattle.replay_links.specs.Replay.{EndsBy, ReplayStands, ground_of, replay_faults};
     ghost use Rattle.replay_links.specs.declared.end.ReplayEnd.TheVariants as ends;
     ghost use Rattle.replay_links.specs.internal.Cuts.{Cut, MatchOr};
     ghost use Rattle.vpn_base.specs.Sink.{appended};
@@ -223,6 +232,7 @@ impl<F: Files, S: Sink> ReplayLinks<F, S> {
         ensures opened { OnOk result (self.new.is_open ≡ true) }
         ensures stands { (l : List Round) → ReplayStands F.holds S.contents self.old l → ReplayStands F.holds S.contents self.new l }
         ensures input { IfErr result (λ e. IfWhy e (λ k. k ≡ LinkFault.Input)) }
+        ensures ended { EndsBy result self.old.ended self.new.ended }
         ensures failed { IfErr result (λ e. IfWhy e (λ k. Rose (replay_faults F.faults S.faults self.old k) (replay_faults F.faults S.faults self.new k))) }
         ensures never_falls { (k : LinkFault) → replay_faults F.faults S.faults self.old k ≤ replay_faults F.faults S.faults self.new k }
         ensures ground { ground_of F.holds S.contents self.new ≡ ground_of F.holds S.contents self.old }
@@ -257,7 +267,8 @@ impl<F: Files, S: Sink> ReplayLinks<F, S> {
         ensures counted { IfErr result (λ e. IfWhy e (λ k. Rose self.old.refused self.new.refused)) }
         ensures never_falls { self.old.refused ≤ self.new.refused }
         ensures kept { (self.new.files ≡ self.old.files) × (self.new.out ≡ self.old.out) × (self.new.name ≡ self.old.name)
-            × (self.new.written ≡ self.old.written) × (self.new.missing ≡ self.old.missing) }
+            × (self.new.written ≡ self.old.written) × (self.new.missing ≡ self.old.missing) × (self.new.is_cut ≡ self.old.is_cut) }
+        ensures ended { EndsBy result self.old.ended self.new.ended }
     {
         let Some(given) = one_more(self.given) else {
             return Err(Or::Memory);
@@ -286,6 +297,7 @@ impl<F: Files, S: Sink> ReplayLinks<F, S> {
         ensures err { IfErr result (λ e. MatchOr e (self.new ≡ self.old) (λ k. (k ≡ LinkFault.Output)
             × Rose (S.faults self.old.out) (S.faults self.new.out) × Cut (S.contents self.old.out) (S.contents self.new.out) self.old self.new line.now)) }
         ensures never_falls { S.faults self.old.out ≤ S.faults self.new.out }
+        ensures ended { self.new.ended ≡ self.old.ended }
     {
         if self.written.checked_add(line.len() as u64).is_none() {
             return Err(Or::Memory);
@@ -300,6 +312,11 @@ impl<F: Files, S: Sink> ReplayLinks<F, S> {
     }
 }
 
+/// Where no count of the links fell since no line was cut, and a line is cut now, the sink's count has risen.
+pub fn a_cut_is_a_failure()
+    ensures { (before now : ℕ) → before_cut false before ≤ before_cut true now → Rose before now }
+{}
+
 fn replace(into: &mut Event, event: Event)
     ensures { into.new ≡ event }
 {
@@ -307,7 +324,7 @@ fn replace(into: &mut Event, event: Event)
 }
 
 impl<F: Files, S: Sink> Links for ReplayLinks<F, S> {
-    ghost use Rattle.replay_links.specs.Replay.{Ground, ReplayStands, ground_of, replay_faults};
+    ghost use Rattle.replay_links.specs.Replay.{EndsBy, Ground, ReplayStands, ground_of, replay_faults};
 
     ghost Origin = { Ground };
 
@@ -319,12 +336,33 @@ impl<F: Files, S: Sink> Links for ReplayLinks<F, S> {
 
     ghost faults = { λ r k. replay_faults F.faults S.faults r k };
 
-    fn start(&mut self, plan: &Plan) -> Result<(), Or<LinkFault>> {
+    fn start(&mut self, plan: &Plan) -> Result<(), Or<LinkFault>>
+        ensures started { OnOk result (Untold ≡ started_with Untold plan.now) }
+        ensures refused { OnErr result (Untold ≡ Untold) }
+        ensures rounds { (l : List Round) → ReplayStands F.holds S.contents self.old l → ReplayStands F.holds S.contents self.new l }
+        ensures failed { IfErr result (λ e. IfWhy e (λ k. Rose (replay_faults F.faults S.faults self.old k) (replay_faults F.faults S.faults self.new k))) }
+        ensures never_falls { (k : LinkFault) → replay_faults F.faults S.faults self.old k ≤ replay_faults F.faults S.faults self.new k }
+        ensures origin { ground_of F.holds S.contents self.new ≡ ground_of F.holds S.contents self.old }
+
+        ensures never_fails { result ≡ Ok tt }
+        ensures same { self.new ≡ self.old }
+    {
         let _ = plan;
         Ok(())
     }
 
-    fn next(&mut self, into: &mut Event) -> Result<(), Or<LinkFault>> {
+    fn next(&mut self, into: &mut Event) -> Result<(), Or<LinkFault>>
+        ensures given { OnOk result ((l : List Round) → ReplayStands F.holds S.contents self.old l → ReplayStands F.holds S.contents self.new (came l into.new)) }
+        ensures refused { OnErr result ((l : List Round) → ReplayStands F.holds S.contents self.old l → ReplayStands F.holds S.contents self.new l) }
+        ensures datagram { OnOk result (IsOfLine into.new.kind) }
+        ensures never_wire { result ≡ Err (Or.Why LinkFault.Wire) → ⊥ }
+        ensures started { Untold ≡ Untold }
+        ensures failed { IfErr result (λ e. IfWhy e (λ k. Rose (replay_faults F.faults S.faults self.old k) (replay_faults F.faults S.faults self.new k))) }
+        ensures never_falls { (k : LinkFault) → replay_faults F.faults S.faults self.old k ≤ replay_faults F.faults S.faults self.new k }
+        ensures origin { ground_of F.holds S.contents self.new ≡ ground_of F.holds S.contents self.old }
+
+        ensures ended { EndsBy result self.old.ended self.new.ended }
+    {
         if let Err(fault) = self.open() {
             return Err(fault);
         }
@@ -337,7 +375,17 @@ impl<F: Files, S: Sink> Links for ReplayLinks<F, S> {
         }
     }
 
-    fn give(&mut self, e: &Effect<'_>) -> Result<(), Or<LinkFault>> {
+    fn give(&mut self, e: &Effect<'_>) -> Result<(), Or<LinkFault>>
+        ensures given { (l : List Round) → ReplayStands F.holds S.contents self.old l → ReplayStands F.holds S.contents self.new (after_give result l (action e.now)) }
+        ensures wire { result ≡ Err (Or.Why LinkFault.Wire) → IsTrue (is_wire (action e.now)) }
+        ensures started { Untold ≡ Untold }
+        ensures failed { IfErr result (λ e. IfWhy e (λ k. Rose (replay_faults F.faults S.faults self.old k) (replay_faults F.faults S.faults self.new k))) }
+        ensures never_falls { (k : LinkFault) → replay_faults F.faults S.faults self.old k ≤ replay_faults F.faults S.faults self.new k }
+        ensures origin { ground_of F.holds S.contents self.new ≡ ground_of F.holds S.contents self.old }
+
+        ensures output { IfErr result (λ e. IfWhy e (λ k. k ≡ LinkFault.Output)) }
+        ensures ended { self.new.ended ≡ self.old.ended }
+    {
         if self.given == 0 {
             return Ok(());
         }

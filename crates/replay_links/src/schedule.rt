@@ -53,13 +53,7 @@ fn add_if(events: &mut Events, event: Option<Event>) -> Result<(), NoMemory>
 }
 
 // Reads a line, and adds its event.
-fn read_line(
-    alloc: Global,
-    events: &mut Events,
-    reading: &Reading,
-    size: u64,
-    text: &[u8],
-) -> Step
+fn read_line(alloc: Global, events: &mut Events, reading: &Reading, size: u64, text: &[u8]) -> Step
     requires small { reading.now.bytes + size < 2 ^ 63 }
     requires few { (reading.now.number ≤ reading.now.bytes) × (reading.now.line ≤ reading.now.bytes) }
     ensures went { (more : Reading → Spelled) →

@@ -52,20 +52,52 @@ fn count<L: Links>(links: &mut L) -> (u64, Result<Moment, Or<LinkFault>>) {
 const TEXTS: [(&[u8], u64, Option<(u64, TextKind)>); 17] = [
     (b"vpn-schedule 1\nend\n", 0, None),
     (b"vpn-schedule 1\r\nat 5 tick\r\n# end\r\nend\r\n", 1, None),
-    (b"\n# a\nvpn-schedule 1\n\nseed 1\nat 5 tick\nat 5 line\nend", 2, None),
+    (
+        b"\n# a\nvpn-schedule 1\n\nseed 1\nat 5 tick\nat 5 line\nend",
+        2,
+        None,
+    ),
     (b"vpn-schedule 1\nat 5 tick\nend\nnothing", 1, None),
-    (b"vpn-schedule 1\nat 5 tick\nat 5 tick\nat 5 tick", 3, Some((4, TextKind::NoEnd))),
+    (
+        b"vpn-schedule 1\nat 5 tick\nat 5 tick\nat 5 tick",
+        3,
+        Some((4, TextKind::NoEnd)),
+    ),
     (b"", 0, Some((0, TextKind::NoEnd))),
     (b"\n#\n", 0, Some((2, TextKind::NoEnd))),
     (b"vpn-schedule 2\n", 0, Some((1, TextKind::Header))),
     (b"\nend\n", 0, Some((2, TextKind::Header))),
-    (b"vpn-schedule 1\nvpn-schedule 1\n", 0, Some((2, TextKind::Words))),
-    (b"vpn-schedule 1\nat 5 tick\nvpn-schedule 1\n", 1, Some((3, TextKind::Words))),
-    (b"vpn-schedule 1\nat 5 tick\nseed x\n", 1, Some((3, TextKind::Words))),
+    (
+        b"vpn-schedule 1\nvpn-schedule 1\n",
+        0,
+        Some((2, TextKind::Words)),
+    ),
+    (
+        b"vpn-schedule 1\nat 5 tick\nvpn-schedule 1\n",
+        1,
+        Some((3, TextKind::Words)),
+    ),
+    (
+        b"vpn-schedule 1\nat 5 tick\nseed x\n",
+        1,
+        Some((3, TextKind::Words)),
+    ),
     (b"vpn-schedule 1\nseed x\n", 0, Some((2, TextKind::Number))),
-    (b"vpn-schedule 1\nseed 1\nseed 1\n", 0, Some((3, TextKind::Words))),
-    (b"vpn-schedule 1\nat 5 tick\nat 5 devicein a\nend", 1, Some((3, TextKind::Digits))),
-    (b"vpn-schedule 1\nat 5 datagram 1.2.3 00\nend", 0, Some((2, TextKind::Address))),
+    (
+        b"vpn-schedule 1\nseed 1\nseed 1\n",
+        0,
+        Some((3, TextKind::Words)),
+    ),
+    (
+        b"vpn-schedule 1\nat 5 tick\nat 5 devicein a\nend",
+        1,
+        Some((3, TextKind::Digits)),
+    ),
+    (
+        b"vpn-schedule 1\nat 5 datagram 1.2.3 00\nend",
+        0,
+        Some((2, TextKind::Address)),
+    ),
     (b"vpn-schedule 1\nat 5 halt\nwrong\nend", 0, None),
 ];
 
@@ -83,7 +115,13 @@ fn schedules_are_read_to_their_end_or_fault(rt: HostRuntime) -> Result<(), Fail>
             }
             Some((line, kind)) => {
                 assert_eq!(rt; answer, Err(Or::Why(LinkFault::Schedule)));
-                assert_eq!(rt; links.ended(), Some(ReplayEnd::Refused { line: *line, kind: *kind }));
+                assert_eq!(rt;
+                    links.ended(),
+                    Some(ReplayEnd::Refused {
+                        line: *line,
+                        kind: *kind
+                    })
+                );
             }
         }
     }

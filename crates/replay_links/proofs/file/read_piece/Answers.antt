@@ -1,4 +1,4 @@
-use Rattle.std.proofs.Common.{ap, subst, ◌≡◌, ℕ, ◌≤◌, ◌∙◌, length, arith}
+use Rattle.std.proofs.Common.{ap, subst, ℕ, ◌≤◌, length, arith}
 use Rattle.vpn_base.specs.Files.{Copied}
 use Rattle.replay_links.proofs.FileFronts.{ended, grown}
 use Rattle.replay_links.proofs.file.read_piece.Goals as goal

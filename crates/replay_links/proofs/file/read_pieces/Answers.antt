@@ -1,4 +1,4 @@
-use Rattle.std.proofs.Common.{◌≡◌, ◌≤◌, ◌<◌, ◌+◌, ◌^◌, ap, refl, subst, ℕ, length, arith}
+use Rattle.std.proofs.Common.{◌≤◌, ◌+◌, ◌^◌, ap, subst, length, arith}
 use Rattle.vpn_base.specs.Files.{Holding}
 use Rattle.replay_links.specs.Fronts.{IsAll, ReadFrom}
 use Rattle.replay_links.proofs.FileFronts.{front_cut, front_whole}

@@ -1,4 +1,4 @@
-use Rattle.std.proofs.Common.{◌≡◌, ℕ, ◌+◌, ◌-◌, ◌<◌, ◌≤◌, length, List, refl, ap, sym, ◌∙◌, arith, append-nil}
+use Rattle.std.proofs.Common.{◌-◌, ◌<◌, length, refl, ap, ◌∙◌, arith}
 use Rattle.vpn_base.specs.Lines.{lines_of}
 use Rattle.replay_links.specs.Schedule.{behind_events, spelled_from}
 use Rattle.replay_links.proofs.NextLine.{line_next, none_behind}

@@ -1,4 +1,4 @@
-use Rattle.std.proofs.Common.{◌≡◌, ap, sym, ◌∙◌, subst, arith}
+use Rattle.std.proofs.Common.{ap, sym, ◌∙◌, subst}
 use Rattle.replay_links.specs.Replay.{Replay, ReplayStands}
 use Rattle.replay_links.proofs.Standing.{gave_beyond, gave_within}
 use Rattle.replay_links.proofs.links.ReplayLinks.take_event.Goals as goal

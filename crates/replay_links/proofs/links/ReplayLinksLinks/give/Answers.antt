@@ -1,6 +1,6 @@
-use Rattle.std.proofs.Common.{◌≡◌, ◌-◌, ◌+◌, ap, sym, ◌∙◌, subst, arith}
+use Rattle.std.proofs.Common.{◌-◌, ap, sym, ◌∙◌, arith}
 use Rattle.vpn_links.specs.Actions.{action}
-use Rattle.replay_links.specs.Replay.{Replay, ReplayStands}
+use Rattle.replay_links.specs.Replay.{Replay}
 use Rattle.replay_links.proofs.Standing.{line_cut, line_given}
 use Rattle.replay_links.proofs.links.ReplayLinksLinks.give.Goals as goal
 
