@@ -1,6 +1,6 @@
 //! Reading a schedule, line by line.
 
-ghost use Rattle.std.specs.Prelude.{◌≡◌, ◌+◌, ◌<◌, ◌≤◌, ◌^◌, Result, IfOk};
+ghost use Rattle.std.specs.Prelude.{◌≡◌, ◌+◌, ◌<◌, ◌≤◌, ◌^◌, None, Result, IfOk};
 ghost use Rattle.vpn_base.specs.Answers.{Answers};
 ghost use Rattle.schedule_text.specs.Words.{words_of};
 ghost use Rattle.schedule_text.specs.EventLine.{IsInBounds};
@@ -140,6 +140,17 @@ fn pass(reading: &Reading, size: u64) -> Reading
     }
 }
 
+// A line that spells no event.
+fn without_event(reading: Reading) -> Taken
+    ensures { result ≡ record { reading = reading; event = None; ends = false } }
+{
+    Taken {
+        reading,
+        event: None,
+        ends: false,
+    }
+}
+
 // What is known behind a line that is right, and its event.
 pub(crate) fn take(reading: &Reading, size: u64, line: Line) -> Taken
     requires small { reading.now.bytes + size < 2 ^ 63 }
@@ -148,27 +159,15 @@ pub(crate) fn take(reading: &Reading, size: u64, line: Line) -> Taken
 {
     let mut next = pass(reading, size);
     match line {
-        Line::Blank => Taken {
-            reading: next,
-            event: None,
-            ends: false,
-        },
+        Line::Blank => without_event(next),
         Line::Header => {
             next.place = Place::Seed;
-            Taken {
-                reading: next,
-                event: None,
-                ends: false,
-            }
+            without_event(next)
         }
         Line::Seed(seed) => {
             next.place = Place::Events;
             next.seed = seed;
-            Taken {
-                reading: next,
-                event: None,
-                ends: false,
-            }
+            without_event(next)
         }
         Line::Step(event) => {
             next.place = Place::Events;
