@@ -1,6 +1,6 @@
 //! Reading a schedule, line by line.
 
-ghost use Rattle.std.specs.Prelude.{◌≡◌, ◌+◌, ◌<◌, ◌≤◌, ◌^◌, None, Result, IfOk};
+ghost use Rattle.std.specs.Prelude.{◌≡◌, ◌+◌, ◌<◌, ◌≤◌, ◌^◌, false, None, Result, IfOk};
 ghost use Rattle.vpn_base.specs.Answers.{Answers};
 ghost use Rattle.schedule_text.specs.Words.{words_of};
 ghost use Rattle.schedule_text.specs.EventLine.{IsInBounds};
