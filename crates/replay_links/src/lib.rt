@@ -10,7 +10,9 @@ mod schedule;
 mod writing;
 
 pub use end::ReplayEnd;
-pub use links::{ReplayLinks, a_cut_is_a_failure};
+pub use links::{
+    ReplayLinks, a_cut_is_a_failure, a_long_file_is_refused_where_it_passes_its_limit,
+};
 pub use reading::{LONGEST_FILE, LineFault};
 
 #[cfg(test)]

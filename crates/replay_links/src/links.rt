@@ -11,7 +11,7 @@ ghost use Rattle.vpn_links.specs.declared.events.Event.{Event};
 ghost use Rattle.vpn_links.specs.declared.links.LinkFault.{LinkFault};
 ghost use Rattle.replay_links.specs.Fronts.{IsFrontOf};
 ghost use Rattle.replay_links.specs.Replay.{before_cut};
-ghost use Rattle.replay_links.specs.Schedule.{spells};
+ghost use Rattle.replay_links.specs.Schedule.{schedule_of, spells};
 ghost use Rattle.replay_links.specs.declared.end.ReplayEnd.TheVariants as ends;
 ghost use Rattle.vpn_base.specs.declared.outside.FileFault.{FileFault};
 ghost use Rattle.vpn_links.specs.declared.events.Kind.TheVariants.{Halt};
@@ -402,3 +402,8 @@ impl<F: Files, S: Sink> Links for ReplayLinks<F, S> {
         }
     }
 }
+
+/// What a file spells is what its first 2^40 + 1 bytes spell: over its limit the line that passes it is too long.
+pub fn a_long_file_is_refused_where_it_passes_its_limit()
+    ensures { (text : List ℕ) → schedule_of text ≡ spells text }
+{}
