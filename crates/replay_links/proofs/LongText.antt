@@ -1,10 +1,9 @@
 -- A text over the limit of a file spells what its front spells, up to the first byte past the limit.
-use Rattle.std.proofs.Common.{◌≡◌, ℕ, zero, suc, ◌+◌, ◌-◌, ◌^◌, ◌<◌, ◌≤◌, ◌==◌, ◌⊎◌, inl, inr, Bool, true, false, cond, if◌then◌else◌, nat_le, nat_lt, List, [], ◌∷◌, ◌++◌, length, take, refl, ap, sym, ◌∙◌, arith, Some, None, Err, Ok, Result, append-nil, take_all, length-append, length-take-le, leb-true, leb-false, lt-ltb, ltb-false, eqb-true}
+use Rattle.std.proofs.Common.{◌≡◌, ℕ, zero, suc, ◌+◌, ◌-◌, ◌^◌, ◌<◌, ◌≤◌, ◌==◌, ◌⊎◌, inl, inr, Bool, true, false, cond, nat_le, nat_lt, List, [], ◌∷◌, ◌++◌, length, take, refl, ap, sym, ◌∙◌, arith, Some, Err, Ok, Result, take_all, length-append, length-take-le, leb-true, leb-false, lt-ltb, ltb-false, eqb-true}
 use Rattle.std.specs.List.{slice_split, onto_first}
 use Rattle.std.proofs.lemmas.List.{take-append-le}
 use Rattle.std.proofs.lemmas.List.Splits.{length-slice_split}
 use Rattle.vpn_base.specs.Lines.{Line, content, lines_of, lines_of_parts, size}
-use Rattle.vpn_links.specs.declared.events.Event.{Event}
 use Rattle.schedule_text.specs.declared.event_line.Line.{Line as EventLine}
 use Rattle.schedule_text.specs.declared.event_line.Line.TheVariants as lines
 use Rattle.schedule_text.specs.declared.kind.TextKind.{TextKind}
@@ -51,6 +50,7 @@ first_line (x ∷ xs) = by_first x xs (x == 10) refl (first_line xs)
     by_rest : (x : ℕ) (xs : List ℕ) → (x == 10) ≡ false → IsOneLine xs ⊎ Begins xs → IsOneLine (x ∷ xs) ⊎ Begins (x ∷ xs)
     by_rest x xs other (inl one) = inl (one_more x xs other one)
     by_rest x xs other (inr b) = inr (record { line = x ∷ b.line; rest = b.rest; is = ap (λ l. x ∷ l) b.is; one = one_more x b.line other b.one })
+
     by_first : (x : ℕ) (xs : List ℕ) (b : Bool) → (x == 10) ≡ b → IsOneLine xs ⊎ Begins xs → IsOneLine (x ∷ xs) ⊎ Begins (x ∷ xs)
     by_first x xs true feed later = inr (record { line = []; rest = xs; is = ap (λ c. c ∷ xs) (eqb-true x 10 feed); one = refl })
     by_first x xs false other later = by_rest x xs other later

@@ -103,6 +103,10 @@ impl<F: Files, S: Sink> ReplayLinks<F, S> {
     /// Why the last event that was asked for did not come, if it did not for the schedule.
     pub fn ended(&self) -> Option<ReplayEnd>
         ensures same { result ≡ self.now.ended }
+
+        // No file, or all events were given and this fault stands behind them.
+        ensures cause { (l : List Round) → ReplayStands F.holds S.contents self.now l →
+            Caused (F.holds self.now.files self.now.name) self.now.is_open self.now.left self.now.fault result }
     {
         self.ended
     }
