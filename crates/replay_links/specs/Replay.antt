@@ -20,7 +20,7 @@ use Rattle.replay_links.specs.Schedule.{Spelled, spells}
 -- ---- what stands behind them
 
 -- the name of the schedule, what the files hold under it, and what the sink held at first
-pub record Ground : Type 0 where
+pub record Backing : Type 0 where
   pub name : List ℕ
   pub holding : Holding
   pub begun : Option (List ℕ)
@@ -129,8 +129,8 @@ abbrev pub ReplayStands : {F S : Type 0} → (F → List ℕ → Holding) → (S
 ReplayStands holds contents r rounds = StandsFor (holds r.files r.name) (contents r.out) r rounds
 
 -- what stands behind links of a replay
-abbrev pub ground_of : {F S : Type 0} → (F → List ℕ → Holding) → (S → Option (List ℕ)) → Replay F S → Ground
-ground_of holds contents r = record { name = r.name; holding = holds r.files r.name; begun = begun_of (contents r.out) r.written }
+abbrev pub backing_of : {F S : Type 0} → (F → List ℕ → Holding) → (S → Option (List ℕ)) → Replay F S → Backing
+backing_of holds contents r = record { name = r.name; holding = holds r.files r.name; begun = begun_of (contents r.out) r.written }
 
 -- one more than the sink's failures as long as no line is cut, and then just those, unless they can't be counted any more: as it never falls, they rose where a line is cut
 abbrev pub before_cut : Bool → ℕ → ℕ

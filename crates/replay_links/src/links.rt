@@ -72,14 +72,14 @@ impl<F: Files, S: Sink> Model for ReplayLinks<F, S> {
 }
 
 impl<F: Files, S: Sink> ReplayLinks<F, S> {
-    ghost use Rattle.replay_links.specs.Replay.{Caused, ReplayStands, ground_of};
+    ghost use Rattle.replay_links.specs.Replay.{Caused, ReplayStands, backing_of};
 
     /// Links that will read the schedule of this name.
     pub fn new(alloc: Global, files: F, name: Text, out: S) -> ReplayLinks<F, S>
         ensures parts { (result.files ≡ files) × (result.out ≡ out) × (result.name ≡ name) }
         ensures none { (result.missing ≡ 0) × (result.refused ≡ 0) × (result.ended ≡ None) }
         ensures stands { ReplayStands F.holds S.contents result [] }
-        ensures ground { ground_of F.holds S.contents result ≡ record { name = name; holding = F.holds files name; begun = S.contents out } }
+        ensures backing { backing_of F.holds S.contents result ≡ record { name = name; holding = F.holds files name; begun = S.contents out } }
     {
         ReplayLinks {
             alloc,
@@ -189,7 +189,7 @@ fn halt_at(now: Moment) -> Event
 }
 
 impl<F: Files, S: Sink> ReplayLinks<F, S> {
-    ghost use Rattle.replay_links.specs.Replay.{EndsBy, ReplayStands, ground_of, replay_faults};
+    ghost use Rattle.replay_links.specs.Replay.{EndsBy, ReplayStands, backing_of, replay_faults};
     ghost use Rattle.replay_links.specs.declared.end.ReplayEnd.TheVariants as ends;
     ghost use Rattle.replay_links.specs.internal.Cuts.{Cut, MatchOr};
     ghost use Rattle.vpn_base.specs.Sink.{appended};
@@ -239,7 +239,7 @@ impl<F: Files, S: Sink> ReplayLinks<F, S> {
         ensures ended { EndsBy result self.old.ended self.new.ended }
         ensures failed { IfErr result (λ e. IfWhy e (λ k. Rose (replay_faults F.faults S.faults self.old k) (replay_faults F.faults S.faults self.new k))) }
         ensures never_falls { (k : LinkFault) → replay_faults F.faults S.faults self.old k ≤ replay_faults F.faults S.faults self.new k }
-        ensures ground { ground_of F.holds S.contents self.new ≡ ground_of F.holds S.contents self.old }
+        ensures backing { backing_of F.holds S.contents self.new ≡ backing_of F.holds S.contents self.old }
     {
         if self.is_open {
             return Ok(());
@@ -328,11 +328,11 @@ fn replace(into: &mut Event, event: Event)
 }
 
 impl<F: Files, S: Sink> Links for ReplayLinks<F, S> {
-    ghost use Rattle.replay_links.specs.Replay.{EndsBy, Ground, ReplayStands, ground_of, replay_faults};
+    ghost use Rattle.replay_links.specs.Replay.{EndsBy, Backing, ReplayStands, backing_of, replay_faults};
 
-    ghost Origin = { Ground };
+    ghost Origin = { Backing };
 
-    ghost origin_of = { λ r. ground_of F.holds S.contents r };
+    ghost origin_of = { λ r. backing_of F.holds S.contents r };
 
     ghost started = { λ _. Untold };
 
@@ -346,7 +346,7 @@ impl<F: Files, S: Sink> Links for ReplayLinks<F, S> {
         ensures rounds { (l : List Round) → ReplayStands F.holds S.contents self.old l → ReplayStands F.holds S.contents self.new l }
         ensures failed { IfErr result (λ e. IfWhy e (λ k. Rose (replay_faults F.faults S.faults self.old k) (replay_faults F.faults S.faults self.new k))) }
         ensures never_falls { (k : LinkFault) → replay_faults F.faults S.faults self.old k ≤ replay_faults F.faults S.faults self.new k }
-        ensures origin { ground_of F.holds S.contents self.new ≡ ground_of F.holds S.contents self.old }
+        ensures origin { backing_of F.holds S.contents self.new ≡ backing_of F.holds S.contents self.old }
 
         ensures never_fails { result ≡ Ok tt }
         ensures same { self.new ≡ self.old }
@@ -363,7 +363,7 @@ impl<F: Files, S: Sink> Links for ReplayLinks<F, S> {
         ensures started { Untold ≡ Untold }
         ensures failed { IfErr result (λ e. IfWhy e (λ k. Rose (replay_faults F.faults S.faults self.old k) (replay_faults F.faults S.faults self.new k))) }
         ensures never_falls { (k : LinkFault) → replay_faults F.faults S.faults self.old k ≤ replay_faults F.faults S.faults self.new k }
-        ensures origin { ground_of F.holds S.contents self.new ≡ ground_of F.holds S.contents self.old }
+        ensures origin { backing_of F.holds S.contents self.new ≡ backing_of F.holds S.contents self.old }
 
         ensures ended { EndsBy result self.old.ended self.new.ended }
     {
@@ -385,7 +385,7 @@ impl<F: Files, S: Sink> Links for ReplayLinks<F, S> {
         ensures started { Untold ≡ Untold }
         ensures failed { IfErr result (λ e. IfWhy e (λ k. Rose (replay_faults F.faults S.faults self.old k) (replay_faults F.faults S.faults self.new k))) }
         ensures never_falls { (k : LinkFault) → replay_faults F.faults S.faults self.old k ≤ replay_faults F.faults S.faults self.new k }
-        ensures origin { ground_of F.holds S.contents self.new ≡ ground_of F.holds S.contents self.old }
+        ensures origin { backing_of F.holds S.contents self.new ≡ backing_of F.holds S.contents self.old }
 
         ensures output { IfErr result (λ e. IfWhy e (λ k. k ≡ LinkFault.Output)) }
         ensures ended { self.new.ended ≡ self.old.ended }
