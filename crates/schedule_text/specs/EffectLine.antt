@@ -7,7 +7,8 @@ use Rattle.vpn_base.specs.declared.names.Role.TheVariants as roles
 use Rattle.vpn_base.specs.Address.{ip4_text}
 use Rattle.vpn_base.specs.Network.{Network}
 use Rattle.vpn_links.specs.Actions.{Action, Wire, EngineOpen, EnginePut, EngineWrite, EngineClose, Device, Configure, Ask, Say, Report, Stop}
-use Rattle.schedule_text.specs.NoteText.{addr_text, behind, hex_text, note_words}
+use Rattle.address_text.specs.AddressText.{addr_text}
+use Rattle.schedule_text.specs.NoteText.{behind, hex_text, note_words}
 
 -- which end of a session
 abbrev pub role_word : Role → List ℕ

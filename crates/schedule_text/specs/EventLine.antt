@@ -1,12 +1,11 @@
 -- The lines of a schedule. Faults of a line are judged in the order Long, Words, Number, Address, Digits.
-use Rattle.std.specs.Prelude.{ℕ, ◌-◌, ◌^◌, ◌==◌, nat_lt, Bool, List, [], ◌∷◌, length, codes, Option, Some, None, Result, Ok, Err, if◌then◌else◌}
-use Rattle.std.specs.List.{join_with_byte, slice_split}
+use Rattle.std.specs.Prelude.{ℕ, ◌-◌, ◌^◌, nat_lt, Bool, List, [], ◌∷◌, length, codes, Option, Some, None, Result, Ok, Err, if◌then◌else◌}
+use Rattle.std.specs.List.{join_with_byte}
 use Rattle.std.specs.Str.{bytes_eq}
 use Rattle.vpn_base.specs.declared.address.Addr.{Addr}
-use Rattle.vpn_base.specs.declared.address.Ip4.{Ip4}
-use Rattle.vpn_base.specs.Address.{ip4_of}
 use Rattle.vpn_base.specs.Number.{number_of}
-use Rattle.vpn_base.specs.WordCount.{are_none, one_of, two_of}
+use Rattle.vpn_base.specs.WordCount.{are_none, one_of}
+use Rattle.address_text.specs.AddressText.{addr_of}
 use Rattle.vpn_links.specs.declared.events.FileAnswer.{FileAnswer}
 use Rattle.vpn_links.specs.declared.events.FileAnswer.TheVariants as answers
 use Rattle.vpn_links.specs.declared.events.Kind.{Kind}
@@ -31,20 +30,6 @@ moment_of word = number_of (2 ^ 52) word
 -- a number of 64 bits, of a connection or of a client
 abbrev pub wide_of : List ℕ → Option ℕ
 wide_of word = number_of (2 ^ 64 - 1) word
-
--- the address of two parts, if they are an address and a port
-abbrev pub addr_from : Option Ip4 → Option ℕ → Option Addr
-addr_from (Some ip) (Some port) = Some (record { ip = ip; port = port })
-addr_from _ _ = None
-
--- the same, where there are two parts
-abbrev pub addr_of_parts : Option (List ℕ × List ℕ) → Option Addr
-addr_of_parts None = None
-addr_of_parts (Some parts) = addr_from (ip4_of parts.0) (number_of (2 ^ 16 - 1) parts.1)
-
--- the address with a port that a word spells, as 192.0.2.7:40000
-unfoldable pub addr_of : List ℕ → Option Addr
-addr_of word = addr_of_parts (two_of (slice_split (λ c. c == 58) word))
 
 -- the rest of a line, with its spaces
 abbrev pub rest_of : List (List ℕ) → List ℕ

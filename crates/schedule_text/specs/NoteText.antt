@@ -2,7 +2,6 @@
 use Rattle.std.specs.Prelude.{ℕ, List, [], ◌∷◌, ◌++◌, codes, Option, Some, None}
 use Rattle.std.specs.Fmt.{decimal}
 use Rattle.hex.specs.Hex.{encode_lower}
-use Rattle.vpn_base.specs.declared.address.Addr.{Addr}
 use Rattle.vpn_base.specs.declared.names.Cid.{Cid}
 use Rattle.vpn_base.specs.declared.names.Cause.{Cause}
 use Rattle.vpn_base.specs.declared.names.Cause.TheVariants as causes
@@ -11,6 +10,7 @@ use Rattle.vpn_base.specs.declared.names.Freshness.TheVariants as ids
 use Rattle.vpn_base.specs.declared.names.Malformed.{Malformed}
 use Rattle.vpn_base.specs.declared.names.Malformed.TheVariants as forms
 use Rattle.vpn_base.specs.Address.{ip4_text}
+use Rattle.address_text.specs.AddressText.{addr_text}
 use Rattle.vpn_links.specs.declared.notes.Note.{Note}
 use Rattle.vpn_links.specs.declared.notes.Note.TheVariants as notes
 
@@ -23,10 +23,6 @@ behind (word ∷ words) = 32 ∷ (word ++ behind words)
 abbrev pub hex_text : List ℕ → List ℕ
 hex_text [] = codes "-"
 hex_text (b ∷ bytes) = encode_lower (b ∷ bytes)
-
--- an address with a port, as 192.0.2.7:40000
-abbrev pub addr_text : Addr → List ℕ
-addr_text a = ip4_text a.ip ++ 58 ∷ decimal a.port
 
 -- what is wrong with a packet
 abbrev pub form_word : Malformed → List ℕ

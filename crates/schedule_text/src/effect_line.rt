@@ -3,8 +3,9 @@
 ghost use Rattle.std.specs.Prelude.{◌≡◌, ◌∷◌, ◌++◌, [], map, OnOk, IfOk};
 ghost use Rattle.std.specs.Fmt.{decimal};
 ghost use Rattle.vpn_links.specs.Actions.{action};
+ghost use Rattle.address_text.specs.AddressText.{addr_text};
 ghost use Rattle.schedule_text.specs.EffectLine.{block_text, effect_fields, effect_line, effect_word, gateway_word, role_word, route_text};
-ghost use Rattle.schedule_text.specs.NoteText.{addr_text, behind, hex_text};
+ghost use Rattle.schedule_text.specs.NoteText.{behind, hex_text};
 
 use crate::note_text::put_note;
 use crate::pieces::{

@@ -6,30 +6,18 @@ ghost use Rattle.vpn_base.specs.Answers.{Answers};
 ghost use Rattle.vpn_base.specs.WordCount.{are_none, one_of};
 ghost use Rattle.vpn_links.specs.Rounds.{IsOfLine};
 ghost use Rattle.vpn_links.specs.declared.events.Kind.TheVariants as events;
-ghost use Rattle.schedule_text.specs.EventLine.{addr_of, answer_line, bytes_from, bytes_if, datagram_line, device_in_of, engine_down_line, engine_plain_of, engine_text_of, engine_up_line, file_line, held_of, kind_line, last_bytes, numbered_line, plain_answer, plain_line, rest_of, wide_of};
+ghost use Rattle.schedule_text.specs.EventLine.{answer_line, bytes_from, bytes_if, datagram_line, device_in_of, engine_down_line, engine_plain_of, engine_text_of, engine_up_line, file_line, held_of, kind_line, last_bytes, numbered_line, plain_answer, plain_line, rest_of, wide_of};
 ghost use Rattle.schedule_text.specs.internal.Arguments.{arguments_of};
 
 use crate::event_line::LONGEST_BYTES;
 use crate::kind::TextKind;
-use crate::words::{next_word, one_word, read_bytes, two_parts};
+use crate::words::{next_word, one_word, read_bytes};
+use address_text::read_addr;
 use std::alloc::Global;
-use vpn_base::{Addr, Bytes, Cid, Conn, Ip4, NoMemory, Or, Text, read_ip4, read_number};
+use vpn_base::{Bytes, Cid, Conn, NoMemory, Or, Text, read_number};
 use vpn_links::{FileAnswer, Kind};
 
 type Read = Result<Kind, Or<TextKind>>;
-
-#[tactic(auto, unfolding(crate::specs::EventLine::addr_of))]
-fn read_addr(word: &[u8]) -> Option<Addr>
-    ensures { result ≡ addr_of word.now }
-{
-    let (ip, port) = two_parts(word, b':')?;
-    let ip = read_ip4(ip)?;
-    let port = read_number(port, 65_535)?;
-    Some(Addr {
-        ip,
-        port: port as u16,
-    })
-}
 
 fn read_wide(word: &[u8]) -> Option<u64>
     ensures { result ≡ wide_of word.now }

@@ -3,7 +3,8 @@
 ghost use Rattle.std.specs.Prelude.{◌≡◌, ◌∷◌, ◌++◌, [], OnOk};
 ghost use Rattle.std.specs.Fmt.{decimal};
 ghost use Rattle.vpn_base.specs.Address.{ip4_text};
-ghost use Rattle.schedule_text.specs.NoteText.{addr_text, behind, cause_field, cause_word, field_words, first_word, form_word, freshness_word, note_fields, note_word, note_words, owner_word, sender_word};
+ghost use Rattle.address_text.specs.AddressText.{addr_text};
+ghost use Rattle.schedule_text.specs.NoteText.{behind, cause_field, cause_word, field_words, first_word, form_word, freshness_word, note_fields, note_word, note_words, owner_word, sender_word};
 
 use crate::pieces::{put_addr, put_hex, put_host, put_number, put_word};
 use std::alloc::Global;

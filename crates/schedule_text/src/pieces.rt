@@ -3,9 +3,11 @@
 ghost use Rattle.std.specs.Prelude.{◌≡◌, ◌∷◌, ◌++◌, OnOk};
 ghost use Rattle.std.specs.Fmt.{decimal};
 ghost use Rattle.vpn_base.specs.Address.{ip4_text};
+ghost use Rattle.address_text.specs.AddressText.{addr_text};
 ghost use Rattle.schedule_text.specs.EffectLine.{block_text};
-ghost use Rattle.schedule_text.specs.NoteText.{addr_text, behind, hex_text};
+ghost use Rattle.schedule_text.specs.NoteText.{behind, hex_text};
 
+use address_text::write_addr;
 use itoa::Buffer;
 use std::alloc::Global;
 use vpn_base::{Addr, Ip4, NoMemory, write_ip4};
@@ -63,9 +65,8 @@ pub(crate) fn put_host(line: &mut Vec<u8>, a: Ip4) -> Result<(), NoMemory>
 pub(crate) fn put_addr(line: &mut Vec<u8>, a: Addr) -> Result<(), NoMemory>
     ensures { OnOk result (line.new.items ≡ line.old.items ++ 32 ∷ addr_text a) }
 {
-    put_host(line, a.ip)?;
-    put(line, b":")?;
-    put_decimal(line, u64::from(a.port))
+    put(line, b" ")?;
+    write_addr(line, a)
 }
 
 /// The same for an address with a length.
