@@ -1,4 +1,5 @@
-//! The key sessions of one client.
+//! The key sessions of one client. The type of a key session says how far its negotiation has come, so
+//! that only one with keys has any; the slots keep all sessions of a client, and tell which may be used.
 #![tactic(auto)]
 
 mod changes;

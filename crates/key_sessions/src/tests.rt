@@ -9,6 +9,7 @@ use crate::runs::BareText;
 use key_method2::{Km2, Source};
 use std::alloc::Global;
 use std::test::Fail;
+use vpn_links::ControlText;
 use vpn_base::{Bytes, Cipher, Conn, Moment, NoMemory, Or, Policy, Sid, Text, Timers};
 
 const SETUP: SlotSetup = SlotSetup {
@@ -208,9 +209,16 @@ fn is_kept_as(name: &[u8], kept: &[u8]) -> bool {
     }
 }
 
+// The engine connection that a session's text tells.
+fn conn_of_text() -> Conn {
+    let mut session = begun();
+    session.text().conn()
+}
+
 #[test]
 fn names_are_judged(rt: HostRuntime) {
     let long = [b'a'; 65];
+    assert_eq!(rt; conn_of_text(), Conn(7));
     assert!(rt; is_kept_as(b"al ice", b"al_ice"));
     assert!(rt; is_kept_as(&long[1..], &long[1..]));
     assert!(rt; fault_of(b"al/ice", Some(b"al_ice")) == None);
