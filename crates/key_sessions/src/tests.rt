@@ -9,8 +9,8 @@ use crate::runs::BareText;
 use key_method2::{Km2, Source};
 use std::alloc::Global;
 use std::test::Fail;
-use vpn_links::ControlText;
 use vpn_base::{Bytes, Cipher, Conn, Moment, NoMemory, Or, Policy, Sid, Text, Timers};
+use vpn_links::ControlText;
 
 const SETUP: SlotSetup = SlotSetup {
     timers: Timers {
