@@ -3,6 +3,7 @@
 #![tactic(auto)]
 
 mod changes;
+mod laws;
 mod looks;
 mod name;
 mod places;
@@ -12,6 +13,7 @@ mod slot;
 mod slots;
 mod text;
 
+pub use laws::sessions_are_changed_one_by_one;
 pub use name::NameFault;
 pub use runs::{SlotAnswer, SlotEvent, SlotSetup, run_slots};
 pub use session::{KeySession, Keyed, Named, NoCipher, Opening, cipher_chosen, kid_of};

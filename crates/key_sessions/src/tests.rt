@@ -339,5 +339,6 @@ fn slots_tell_of_their_sessions(rt: HostRuntime) -> Result<(), Fail> {
     assert!(rt; slots.begin_next(next).is_ok());
     assert!(rt; slots.open_at(1) == Some((1, 1, Conn(8))));
     assert!(rt; slots.name().is_none());
+    sessions_are_changed_one_by_one();
     Ok(())
 }
