@@ -162,3 +162,9 @@ unfolding newest_usable
 next_open ss s none last = λ n t is_last is.
     let was_last = sym (last_before ss s none) ∙ is_last in
     last n t was_last (within ss s t n was_last is)
+
+-- two changes of one session are one
+pub changed_twice : (n : ℕ) (f g : Session → Session) (ss : List Session) → changed_at n f (changed_at n g ss) ≡ changed_at n (λ s. f (g s)) ss
+changed_twice n f g [] = refl
+changed_twice zero f g (s ∷ ss) = refl
+changed_twice (suc n) f g (s ∷ ss) = ap (λ ts. s ∷ ts) (changed_twice n f g ss)

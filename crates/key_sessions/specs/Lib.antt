@@ -3,5 +3,6 @@ pub mod Sessions
 pub mod Slots
 pub mod Changes
 pub mod Looks
+pub mod Lending
 pub mod Runs
 pub mod internal

@@ -9,6 +9,8 @@ ghost use Rattle.peer_table.specs.Exchange.{block_of, chosen, cipher_in};
 ghost use Rattle.peer_table.specs.KeySessions.{Session, Stage, kid_of};
 ghost use Rattle.peer_table.specs.KeySessions as sessions;
 ghost use Rattle.key_sessions.specs.declared.name.NameFault.{NameFault};
+ghost use Rattle.std.specs.Borrow.{sem};
+ghost use Rattle.key_sessions.specs.Lending.{LendsText};
 ghost use Rattle.key_sessions.specs.Names.{name_fault};
 ghost use Rattle.key_sessions.specs.Sessions.{BeginsAt, KeyedStands, NamedStands, OpeningStands, keys_made, keys_shown, restaged};
 
@@ -262,6 +264,14 @@ impl<T: SessionText> KeySession<T, Keyed> {
 }
 
 impl<T, S> KeySession<T, S> {
+    /// Its text, which may be changed.
+    pub fn text(&mut self) -> &mut T
+        ensures* writes_back { sem 𝓛 (LendsText T.row S.row self.entry result) }
+        ensures value { result.now ≡ self.old.text }
+    {
+        &mut self.text
+    }
+
     /// Its number, from 0.
     pub fn number(&self) -> u64
         ensures { result ≡ self.now.number }

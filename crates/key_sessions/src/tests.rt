@@ -10,6 +10,7 @@ use key_method2::{Km2, Source};
 use std::alloc::Global;
 use std::test::Fail;
 use vpn_base::{Bytes, Cipher, Conn, Moment, NoMemory, Or, Policy, Sid, Text, Timers};
+use vpn_links::ControlText;
 
 const SETUP: SlotSetup = SlotSetup {
     timers: Timers {
@@ -208,9 +209,16 @@ fn is_kept_as(name: &[u8], kept: &[u8]) -> bool {
     }
 }
 
+// The engine connection that a session's text tells.
+fn conn_of_text() -> Conn {
+    let mut session = begun();
+    session.text().conn()
+}
+
 #[test]
 fn names_are_judged(rt: HostRuntime) {
     let long = [b'a'; 65];
+    assert_eq!(rt; conn_of_text(), Conn(7));
     assert!(rt; is_kept_as(b"al ice", b"al_ice"));
     assert!(rt; is_kept_as(&long[1..], &long[1..]));
     assert!(rt; fault_of(b"al/ice", Some(b"al_ice")) == None);
@@ -331,5 +339,6 @@ fn slots_tell_of_their_sessions(rt: HostRuntime) -> Result<(), Fail> {
     assert!(rt; slots.begin_next(next).is_ok());
     assert!(rt; slots.open_at(1) == Some((1, 1, Conn(8))));
     assert!(rt; slots.name().is_none());
+    sessions_are_changed_one_by_one();
     Ok(())
 }
