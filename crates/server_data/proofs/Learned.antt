@@ -19,7 +19,7 @@ use Rattle.server_state.specs.Core.{CoreStands, CourseStands, established_at}
 use Rattle.server_state.specs.Places.{IsThere}
 
 -- other routes at the core and at the table
-with_routes : {S : Type 0} (means : S → Peer → Type 0) (core : ServerCore S) (t : Table) (q r : routes.Table) → CoreStands means core t → q ≡ r
+with_routes : {S : Type 0} (means : S → Peer → Type 0) (core : ServerCore S) (t : Table) (q : routes.Contents) (r : routes.Table) → CoreStands means core t → routes.table_of q ≡ r
     → CoreStands means (record core { routes = q }) (record t { routes = r })
 with_routes means core t q r h is = record {
   settings = h.settings;
@@ -64,7 +64,7 @@ module _ {S : Type 0} (means : S → Peer → Type 0) (core : ServerCore S) wher
     none_learned out lacks none h = subst (λ b. CourseStands means before core out (learned_where lacks m host c b)) (sym none) h
 
     -- it was learned
-    pub one_learned : (out : Contents) (q : routes.Table) → is_host_of host (client_here c.table m) ≡ true → q ≡ routes.with_host host (cid m) core.routes
+    pub one_learned : (out : Contents) (q : routes.Contents) → is_host_of host (client_here c.table m) ≡ true → routes.table_of q ≡ routes.with_host host (cid m) (routes.table_of core.routes)
         → CourseStands means before core out c → CourseStands means before (record core { routes = q }) out (learned false m host c)
     unfolding learned
     one_learned out q host_is is h =
@@ -72,6 +72,7 @@ module _ {S : Type 0} (means : S → Peer → Type 0) (core : ServerCore S) wher
         (record {
           table = with_routes means core c.table q (routes.with_host host (cid m) c.table.routes) h.table (is ∙ ap (routes.with_host host (cid m)) h.table.routes);
           outbox = h.outbox;
+          in_turn = h.in_turn;
         })
 
     unknown : (b : Bool) → (b ≡ true → false ≡ true) → not b ≡ true
@@ -79,7 +80,7 @@ module _ {S : Type 0} (means : S → Peer → Type 0) (core : ServerCore S) wher
     unknown false not_so = refl
 
     -- there was no memory
-    pub lacking : (out new : Contents) (q : routes.Table) → is_host_of host (client_here c.table m) ≡ true → q ≡ core.routes
+    pub lacking : (out new : Contents) (q : routes.Contents) → is_host_of host (client_here c.table m) ≡ true → routes.table_of q ≡ routes.table_of core.routes
         → (routes.is_learned core.routes.learned host ≡ true → false ≡ true) → CourseStands means before core out c
         → ((c : Course) → CourseStands means before (record core { routes = q }) out c → CourseStands means before (record core { routes = q }) new (reported (NotLearned (cid m) host) c))
         → CourseStands means before (record core { routes = q }) new (learned true m host c)
@@ -88,4 +89,4 @@ module _ {S : Type 0} (means : S → Peer → Type 0) (core : ServerCore S) wher
         subst (λ b. CourseStands means before (record core { routes = q }) new (learned_where true m host c b)) (sym host_is)
         (subst (λ b. CourseStands means before (record core { routes = q }) new (learned_unless_lacking m host c b))
         (sym (ap (λ (r : routes.Table). not (routes.is_learned r.learned host)) (sym h.table.routes) ∙ unknown (routes.is_learned core.routes.learned host) not_there))
-        (tells c (record { table = with_routes means core c.table q c.table.routes h.table (same ∙ h.table.routes); outbox = h.outbox })))
+        (tells c (record { table = with_routes means core c.table q c.table.routes h.table (same ∙ h.table.routes); outbox = h.outbox; in_turn = h.in_turn })))

@@ -133,7 +133,7 @@ module _ {S : Type 0} (means : S → Peer → Type 0) (before : List Action) (co
       subst (λ b. CourseStands means before (record core { clients = ct }) out (moved_if m from c b))
       (sym (both_false (not (is_address x.address from)) (not (is_taken c.table m from x.session.remote))
       (sym (taken_is false place item (found there.entry.key.sid) may))))
-      (record { table = same_clients means core c.table ct h.table has; outbox = h.outbox })
+      (record { table = same_clients means core c.table ct h.table has; outbox = h.outbox; in_turn = h.in_turn })
 
   -- it has moved
   pub moves : (new : Contents) (ct : ClientTable (ClientState S)) (k : Key) → option_map (λ e. e.key) (slice_get (entries_of core.clients) i) ≡ Some k
@@ -169,9 +169,9 @@ module _ {S : Type 0} (means : S → Peer → Type 0) (before : List Action) (co
               address = refl;
               remote = there.stands.remote;
               name = there.stands.name;
+              file = there.stands.file;
               state = record {
                 session = st.session;
-                file = st.file;
                 established = st.established;
                 heard = st.heard;
                 sealed_at = st.sealed_at;
@@ -181,4 +181,5 @@ module _ {S : Type 0} (means : S → Peer → Type 0) (before : List Action) (co
             })
             (λ y. refl);
         outbox = h.outbox;
+        in_turn = h.in_turn;
       }))

@@ -50,7 +50,7 @@ pub stale_is : {S : Type 0} (means : S → Peer → Type 0) (before : List Actio
     → CourseStands means before core out c → by_numbers a ≡ beside n number → number ≡ k
     → CourseStands means before (record core { last_taken = a }) out (record c { table = server.went_to n k c.table })
 stale_is means before core out c n a number k h is same =
-    record { table = with_last_taken means core c.table a (beside n k) h.table (is ∙ ap (beside n) same); outbox = h.outbox }
+    record { table = with_last_taken means core c.table a (beside n k) h.table (is ∙ ap (beside n) same); outbox = h.outbox; in_turn = h.in_turn }
 
 -- ---- the session
 

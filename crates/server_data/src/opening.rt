@@ -51,6 +51,7 @@ fn open<S: DataSession>(
     requires goes_on { S.goes_on client.old.session }
     ensures opened { (x : Client) → StateStands S.stands client.old x →
         Opens S.stands client.new datagram.new now.0 (length datagram.old) x result (data_came datagram.old now x.session) }
+    ensures file { client.new.file ≡ client.old.file }
     ensures goes_on { S.goes_on client.new.session }
     ensures count { S.count client.new.session ≡ S.count client.old.session }
 {
@@ -112,6 +113,8 @@ fn refuse<S: DataSession>(
 fn accept<S: DataSession>(core: &mut ServerCore<S>, cid: Cid, number: Option<u64>, bytes: usize)
     ensures accepted { (t : Table) → CoreStands S.stands core.old t → CoreStands S.stands core.new
         (record t { last_taken = beside cid.0 number; bytes_in = counted t.bytes_in bytes }) }
+    ensures turn_stays { core.new.turn ≡ core.old.turn }
+    ensures mark_stays { core.new.mark ≡ core.old.mark }
     ensures sound { IsSound S.goes_on S.count core.old → IsSound S.goes_on S.count core.new }
 {
     core.last_taken = beside(cid, number);

@@ -16,7 +16,7 @@ use Rattle.server_table.specs.Lookups.{address_in, client_here, if_here}
 use Rattle.server_table.specs.Table.{Client, Table}
 use Rattle.server_state.specs.declared.client.ClientState.{ClientState}
 use Rattle.server_state.specs.declared.state.ServerCore.{ServerCore}
-use Rattle.server_state.specs.Core.{CoreStands, GoesOn, IsOfClient, IsSound, StateStands, name_once}
+use Rattle.server_state.specs.Core.{CoreStands, FileStands, GoesOn, IsOfClient, IsSound, StateStands, name_once, with_held}
 use Rattle.server_state.specs.Places.{IsChangedAt, IsThere}
 use Rattle.server_state.specs.Standing.{StandFrom}
 use Rattle.server_state.proofs.Standing.{IsLocated, Located, located}
@@ -54,13 +54,15 @@ all_changed P f (x ∷ xs) (suc i) all new = (all.0, all_changed P f xs i all.1 
 
 pub with_state : {S : Type 0} (means : S → Peer → Type 0) (e : Entry (ClientState S)) (n : ℕ) (x y : Client) (w : ClientState S) → IsOfClient means e n x
     → y.peer_id ≡ x.peer_id → y.address ≡ x.address → y.session.remote ≡ x.session.remote → y.session.name ≡ x.session.name → y.established ≡ x.established
-    → StateStands means w y → IsOfClient means (table.with_value w e) n y
-with_state means e n x y w h peer_id address remote name established state = record {
+    → y.file ≡ x.file → w.file ≡ e.value.file → StateStands means w y → IsOfClient means (table.with_value w e) n y
+with_state means e n x y w h peer_id address remote name established file kept state = record {
   number = h.number;
   peer_id = h.peer_id ∙ sym peer_id;
   address = h.address ∙ sym address;
   remote = remote ∙ h.remote;
   name = h.name ∙ sym (ap (λ n. name_once n y.established) name ∙ ap (name_once x.session.name) established);
+  file = subst (λ known. FileStands known w.file y.file) (sym name)
+      (subst (λ of. FileStands x.session.name w.file of) (sym file) (subst (λ of. FileStands x.session.name of x.file) (sym kept) h.file));
   state = state;
 }
 
@@ -93,7 +95,7 @@ module _ {S : Type 0} (means : S → Peer → Type 0) (core : ServerCore S) wher
     admitted = admitted ∙ h.admitted ∙ sym (length_same g m t.clients);
     most = most ∙ h.most;
     routes = h.routes;
-    pool = subst (λ taken. pool.Holds core.pool (record { first = first_address t.settings; last = last_address t.settings; taken = taken }))
+    pool = subst (λ taken. pool.Holds core.pool (record { first = first_address t.settings; last = last_address t.settings; taken = with_held core.held taken }))
         (sym (taken_same g same m t.clients)) h.pool;
     queue = h.queue;
     moment = h.moment;
@@ -135,11 +137,11 @@ module _ {S : Type 0} (means : S → Peer → Type 0) (core : ServerCore S) wher
   pub client_kept : (t : Table) (m i : ℕ) (ct : ClientTable (ClientState S)) (w : ClientState S) (h : CoreStands means core t)
       (l : Located (IsOfClient means) (λ e. e.key.number.0) (λ e n x is. is.number) m (entries_of core.clients) 0 m t.clients i)
       → entries_of ct ≡ table.changed_at i (table.with_value w) (entries_of core.clients) → admitted_by ct ≡ admitted_by core.clients → most_of ct ≡ most_of core.clients
-      → StateStands means w l.client → CoreStands means (record core { clients = ct }) t
-  client_kept t m i ct w h l is admitted most state =
+      → w.file ≡ l.entry.value.file → StateStands means w l.client → CoreStands means (record core { clients = ct }) t
+  client_kept t m i ct w h l is admitted most kept state =
       subst (λ clients. CoreStands means (record core { clients = ct }) (record t { clients = clients })) (changed_id m t.clients)
       (client_changed t m i ct w (λ x. x) h l is admitted most l.here
-      (with_state means l.entry m l.client l.client w l.stands refl refl refl refl refl state) (λ y. refl))
+      (with_state means l.entry m l.client l.client w l.stands refl refl refl refl refl refl kept state) (λ y. refl))
 
   -- more bytes were sealed
   pub with_bytes_out : (t : Table) (a b : ℕ) → CoreStands means core t → a ≡ b → CoreStands means (record core { bytes_out = a }) (record t { bytes_out = b })

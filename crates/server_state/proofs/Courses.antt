@@ -19,4 +19,5 @@ pub did_stands : {S : Type 0} (means : S → Peer → Type 0) (before : List Act
 did_stands means before core old new action c h is = record {
   table = h.table;
   outbox = one_more before c.effects _ old new action h.outbox is;
+  in_turn = h.in_turn;
 }

@@ -5,6 +5,8 @@ mod Waiting
 mod Sealed
 mod Changed
 mod Short
+mod Ended
+mod Acted
 mod Counted
 mod Comings
 mod Made

@@ -70,14 +70,18 @@ module _ {S : Type 0} (means : S → Peer → Type 0) (before : List Action) (co
       (key : option_map (λ e. e.key.address) (slice_get (entries_of core.clients) i) ≡ Some to) (v w : ClientState S)
       (value : option_map (λ e. e.value) (slice_get (entries_of core.clients) i) ≡ Some v) (ct : ClientTable (ClientState S))
       (is : entries_of ct ≡ table.changed_at i (table.with_value w) (entries_of core.clients)) (admitted : admitted_by ct ≡ admitted_by core.clients)
-      (most : most_of ct ≡ most_of core.clients) where
+      (most : most_of ct ≡ most_of core.clients) (file : w.file ≡ v.file) where
     l : Located (IsOfClient means) (λ e. e.key.number.0) (λ e n x is. is.number) m (entries_of core.clients) 0 m c.table.clients i
     l = there_at means core c.table m i h.table place
 
+    value_is : l.entry.value ≡ v
+    value_is = ap (λ o. unwrap_or o v) (sym (ap (λ o. option_map (λ e. e.value) o) l.entry_there) ∙ value)
+
     state_was : StateStands means v l.client
-    state_was =
-        subst (λ v. StateStands means v l.client)
-        (ap (λ o. unwrap_or o v) (sym (ap (λ o. option_map (λ e. e.value) o) l.entry_there) ∙ value)) l.stands.state
+    state_was = subst (λ v. StateStands means v l.client) value_is l.stands.state
+
+    file_kept : w.file ≡ l.entry.value.file
+    file_kept = file ∙ sym (ap (λ (v : ClientState S). v.file) value_is)
 
     address_is : to ≡ l.client.address
     address_is =
@@ -94,11 +98,12 @@ module _ {S : Type 0} (means : S → Peer → Type 0) (before : List Action) (co
         (record {
           table = with_bytes_out means (record core { clients = ct }) (with_client m g c.table) b (counted c.table.bytes_out (length d))
               (client_changed means core c.table m i ct w g h.table l is admitted most l.here
-              (with_state means l.entry m l.client (g l.client) w l.stands refl refl remote name refl
+              (with_state means l.entry m l.client (g l.client) w l.stands refl refl remote name refl refl file_kept
               (subst (λ (now : ℕ). StateStands means w (server.with_sent now peer (length d) l.client)) h.table.moment state))
               (λ y. refl))
               (more ∙ ap (counted core.bytes_out) told ∙ ap (λ k. counted k (length d)) h.table.bytes_out);
           outbox = h.outbox;
+          in_turn = h.in_turn;
         })
         (subst (λ (address : Addr). Holds new (old.effects ++ Wire address d ∷ []) old.staged) address_is holds)
     ok_step new size b peer (Err s) more remote name state holds told = absurd told
@@ -122,9 +127,10 @@ module _ {S : Type 0} (means : S → Peer → Type 0) (before : List Action) (co
     err_step mid new spent peer (Ok d) same state holds told tells = absurd told
     err_step mid new spent peer (Err s) same state holds told tells =
         tells c (record {
-          table = client_kept means core c.table m i ct w h.table l is admitted most
+          table = client_kept means core c.table m i ct w h.table l is admitted most file_kept
               (subst (λ (p : Peer). StateStands means w (record l.client { session = p })) (same s refl) state);
           outbox = (holds.0 ∙ append-nil old.effects ∙ h.outbox.0, holds.1 ∙ h.outbox.1);
+          in_turn = h.in_turn;
         })
 
     -- its packet ids are spent

@@ -60,6 +60,7 @@ module _ {E : Type 0} (IsOf : E → ℕ → Client → Type 0) (number : E → �
     pub stands : IsOf entry m client
     pub changed : (f : E → E) (g : Client → Client) → (g client).is_here ≡ true → IsOf (f entry) m (g client)
         → StandFrom IsOf (table.changed_at i f es) n (changed_at j g clients)
+    pub removed : (g : Client → Client) → (g client).is_here ≡ false → StandFrom IsOf (table.without_at i es) n (changed_at j g clients)
 
   -- the client of a number is not here, or it is at its place
   abbrev pub IsLocated : (m : ℕ) (es : List E) (n j : ℕ) (clients : List Client) → Option ℕ → Type 0
@@ -111,6 +112,8 @@ module _ {E : Type 0} (IsOf : E → ℕ → Client → Type 0) (number : E → �
     stands = h.stands;
     changed = λ f g here is.
         subst (λ b. FirstStands IsOf (λ es. StandFrom IsOf es (suc n) (changed_at j g clients)) n x (table.changed_at i f es) b) (sym gone) (h.changed f g here is);
+    removed = λ g is_gone.
+        subst (λ b. FirstStands IsOf (λ es. StandFrom IsOf es (suc n) (changed_at j g clients)) n x (table.without_at i es) b) (sym gone) (h.removed g is_gone);
   }
 
   -- behind one that is here
@@ -127,6 +130,9 @@ module _ {E : Type 0} (IsOf : E → ℕ → Client → Type 0) (number : E → �
     changed = λ f g is_here is.
         subst (λ b. FirstStands IsOf (λ es. StandFrom IsOf es (suc n) (changed_at j g clients)) n x (e ∷ table.changed_at i f es) b) (sym here)
         (p, h.changed f g is_here is);
+    removed = λ g is_gone.
+        subst (λ b. FirstStands IsOf (λ es. StandFrom IsOf es (suc n) (changed_at j g clients)) n x (e ∷ table.without_at i es) b) (sym here)
+        (p, h.removed g is_gone);
   }
 
   at_first : (m : ℕ) (e : E) (es : List E) (n : ℕ) (x : Client) (clients : List Client) → m ≡ n → x.is_here ≡ true → IsOf e n x
@@ -140,6 +146,7 @@ module _ {E : Type 0} (IsOf : E → ℕ → Client → Type 0) (number : E → �
     stands = subst (λ k. IsOf e k x) (sym is) p;
     changed = λ f g is_here q.
         subst (λ b. FirstStands IsOf (λ es. StandFrom IsOf es (suc n) clients) n (g x) (f e ∷ es) b) (sym is_here) (subst (λ k. IsOf (f e) k (g x)) is q, rest);
+    removed = λ g is_gone. subst (λ b. FirstStands IsOf (λ es. StandFrom IsOf es (suc n) clients) n (g x) es b) (sym is_gone) rest;
   }
 
   abbrev pub Locates : ℕ → List Client → Type 0

@@ -54,6 +54,7 @@ module _ {S : Type 0} (means : S → Peer → Type 0) (before : List Action) (co
       (record {
         table = with_queue means core c.table (core.queue ++ inner ∷ []) (c.table.queue ++ inner ∷ []) h.table (ap (λ (q : List (List ℕ)). q ++ inner ∷ []) h.table.queue);
         outbox = h.outbox;
+        in_turn = h.in_turn;
       })
 
   none_step : (out : Contents) (q : List (List ℕ)) → slice_get q 0 ≡ None → CourseStands means before core out c → CourseStands means before core out (dequeued c q)
@@ -73,7 +74,7 @@ module _ {S : Type 0} (means : S → Peer → Type 0) (before : List Action) (co
       let same : first ≡ packet = cc in
       let rest : drop 1 core.queue ≡ q = ap (drop 1) (h.table.queue ∙ is) in
       did_stands means before (record core { queue = drop 1 core.queue }) old new (Device first) (record c { table = record c.table { queue = q } })
-      (record { table = with_queue means core c.table (drop 1 core.queue) q h.table rest; outbox = h.outbox })
+      (record { table = with_queue means core c.table (drop 1 core.queue) q h.table rest; outbox = h.outbox; in_turn = h.in_turn })
       (subst (λ p. Holds new (old.effects ++ Device p ∷ []) old.staged) (sym same) put)
 
   -- the oldest is given to the device

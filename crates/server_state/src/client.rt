@@ -1,15 +1,17 @@
 //! What a core keeps of a client.
 
 use ccd_files::Ccd;
-use vpn_base::{Ip4, Moment, Text};
+use vpn_base::{Ip4, Moment};
 
 /// What is known of a client's file.
 #[derive(Drop)]
 pub enum ClientFile {
     /// It was not looked for.
     Unasked,
-    /// The file of this name was asked for.
-    Awaited(Text),
+    /// The file of the client's name was asked for.
+    AwaitsOwn,
+    /// The file for all clients that have none was asked for.
+    AwaitsDefault,
     /// This is what it says.
     Known(Ccd),
 }

@@ -1,6 +1,6 @@
 //! Laws by which handlers prove that their core stands for the table still.
 
-ghost use Rattle.std.specs.Prelude.{◌≡◌, ℕ, true, false, [], ◌∷◌, ◌++◌, length, List, slice_get, option_map, Some, None};
+ghost use Rattle.std.specs.Prelude.{◌≡◌, ◌+◌, ℕ, true, false, [], ◌∷◌, ◌++◌, length, List, slice_get, option_map, Some, None, Result};
 ghost use Rattle.client_table.specs.declared.table.ClientTable.{ClientTable};
 ghost use Rattle.client_table.specs.Changes.{number_where, place_of, with_value, without};
 ghost use Rattle.client_table.specs.Finding.{has_name, has_peer_id, is_at};
@@ -11,7 +11,14 @@ ghost use Rattle.server_table.specs.Lookups.{by_peer_id, by_session, client_here
 ghost use Rattle.server_table.specs.Table.{Client, Table};
 ghost use Rattle.server_state.specs.declared.client.ClientState.{ClientState};
 ghost use Rattle.server_state.specs.declared.state.ServerCore.{ServerCore};
-ghost use Rattle.server_state.specs.Core.{CoreStands, IsOfClient, IsSound};
+ghost use Rattle.vpn_links.specs.Actions.{Action, Contents};
+ghost use Rattle.peer_table.specs.Outboxes.{actions_of};
+ghost use Rattle.peer_table.specs.Peer.{Outcome};
+ghost use Rattle.peer_table.specs.declared.outcomes.Refused.{Refused};
+ghost use Rattle.peer_table.specs.declared.outcomes.Turn.{Turn};
+ghost use Rattle.server_table.specs.Courses.{Course, acted};
+ghost use Rattle.server_state.specs.Calls.{HasCalled, opens_in};
+ghost use Rattle.server_state.specs.Core.{CoreStands, CourseStands, IsOfClient, IsSound};
 ghost use Rattle.client_table.specs.Entries.{Entry};
 ghost use Rattle.peer_table.specs.Places.{changed_at};
 ghost use Rattle.server_state.specs.Standing.{StandFrom};
@@ -43,6 +50,24 @@ pub fn clients_are_found_alike<S: ClientSession>()
         option_map (λ cid. cid.0) (number_where (is_at from sid) (entries_of core.clients)) ≡ by_session t from sid }
     ensures name { (core : ServerCore S) (t : Table) (name : List ℕ) → CoreStands S.stands core t →
         option_map (λ cid. cid.0) (number_where (has_name name) (entries_of core.clients)) ≡ established_named t name }
+{}
+
+/// A call of the session of the client whose turn it is, at its place, is put into the course as the definitions
+/// do it.
+#[tactic(auto, using(crate::proofs::Acted::call_stands))]
+pub fn calls_are_put_into_courses<S: ClientSession>()
+    ensures turn { (before : List Action) (core : ServerCore S) (c : Course) (old after : Contents) (o : Outcome Turn) (i : ℕ) (v w : ClientState S)
+        (ct : ClientTable (ClientState S)) → CourseStands S.stands before core old c →
+        ((x : Client) → client_here c.table core.turn.0 ≡ Some x → HasCalled S.stands core i old after o v w ct x) →
+        place_of core.turn.0 (entries_of core.clients) ≡ Some i → (x : Client) → client_here c.table core.turn.0 ≡ Some x →
+        CourseStands S.stands before (record core { clients = ct; connections = core.connections + opens_in (actions_of o.peer.role o.doings) }) after
+        (acted core.turn.0 x.address o c) }
+    ensures control { (before : List Action) (core : ServerCore S) (c : Course) (old after : Contents) (o : Outcome (Result Turn Refused)) (i : ℕ) (v w : ClientState S)
+        (ct : ClientTable (ClientState S)) → CourseStands S.stands before core old c →
+        ((x : Client) → client_here c.table core.turn.0 ≡ Some x → HasCalled S.stands core i old after o v w ct x) →
+        place_of core.turn.0 (entries_of core.clients) ≡ Some i → (x : Client) → client_here c.table core.turn.0 ≡ Some x →
+        CourseStands S.stands before (record core { clients = ct; connections = core.connections + opens_in (actions_of o.peer.role o.doings) }) after
+        (acted core.turn.0 x.address o c) }
 {}
 
 /// One client more stands behind all others, and one that goes is taken out under its number, in the table of

@@ -17,7 +17,7 @@ use peer_table::ClientSession;
 use route_table::RouteTable;
 use std::alloc::Global;
 use tls_crypt::StaticKey;
-use vpn_base::{Ip4, Moment, NoMemory, Prefix};
+use vpn_base::{Cid, Ip4, Moment, NoMemory, Prefix};
 
 // The second address behind that of the network.
 #[tactic(auto, using(crate::proofs::Made::fits, crate::proofs::Made::four))]
@@ -62,6 +62,7 @@ impl<S: ClientSession> ServerCore<S> {
             clients: ClientTable::new(alloc, most),
             routes,
             pool: Pool::new(alloc, first_in(net), last_in(net)),
+            held: None,
             queue,
             moment: Moment(0),
             connections: 0,
@@ -72,6 +73,8 @@ impl<S: ClientSession> ServerCore<S> {
             is_stopped: false,
             events: 0,
             last_taken: None,
+            turn: Cid(0),
+            mark: 0,
         })
     }
 }

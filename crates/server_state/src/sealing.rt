@@ -52,6 +52,7 @@ impl<S: ClientSession> ClientState<S> {
         requires goes_on { S.goes_on self.old.session }
         ensures sealed { (x : Client) → StateStands S.stands self.old x →
             Seals S.stands self.new out.old out.new to now.0 x result (sealed_to inner.now x.session) }
+        ensures file { self.new.file ≡ self.old.file }
         ensures goes_on { S.goes_on self.new.session }
         ensures count { S.count self.new.session ≡ S.count self.old.session }
         ensures uses { Uses out.old out.new 1 1524 }

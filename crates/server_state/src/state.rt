@@ -7,7 +7,7 @@ use client_table::ClientTable;
 use ovpn_config::Settings;
 use route_table::RouteTable;
 use tls_crypt::StaticKey;
-use vpn_base::{Cid, Moment};
+use vpn_base::{Cid, Ip4, Moment};
 
 /// A server's core.
 #[derive(Drop)]
@@ -22,6 +22,8 @@ pub struct ServerCore<S> {
     pub routes: RouteTable,
     /// The addresses in the tunnel that established clients have.
     pub pool: Pool,
+    /// An address that was taken ahead, for a client that may be established.
+    pub held: Option<Ip4>,
     /// The packets that wait for the packet device.
     pub queue: DeviceQueue,
     /// The moment of the last event.
@@ -42,4 +44,8 @@ pub struct ServerCore<S> {
     pub events: u64,
     /// The client and the number of the key session to which the datagram of the last event went.
     pub last_taken: Option<(Cid, u64)>,
+    /// The client whose turn it is in a step.
+    pub turn: Cid,
+    /// How many control datagrams were staged when its turn began.
+    pub mark: usize,
 }

@@ -23,11 +23,11 @@ returns-in-Ok-clause-came g c before course h =
     ok_opened means before core c.args.out.now course c.args.cid.0 c.args.i c.args.from c.args.datagram.now c.open.new.datagram h
     (c.places_tell_of_clients.ensures.there core course.table c.args.cid.0 c.args.i h.table c.requires.place) v w c.value_at.ensures.value
     (with_value_at core.clients c.args.i w) (record { entries_are = c.lending_sets_the_value.ensures core.clients c.args.i w; admitted_is = refl; most_is = refl })
-    c.data_session-number.result
+    c.open.ensures.file c.data_session-number.result
     (λ p stands. c.data_session-number.ensures p (subst (λ v. means v.session p) (sym same) stands)
     ∙ ap (λ kid. usable_with p.timers core.moment.0 p.sessions kid) c.kid_in.ensures)
     c.accept.new.core c.follow.new.core c.carry.new.core c.follow.new.out c.carry.new.out c.carry.result c.in-Ok.field-0 (length c.args.datagram.now) c.behind_head.result.now refl c.behind_head.ensures
-    c.in-Ok.ensures.opened c.accept.ensures.accepted c.follow.ensures.moved c.carry.ensures.carried
+    c.in-Ok.ensures.opened c.accept.ensures.accepted c.accept.ensures.turn_stays c.accept.ensures.mark_stays c.follow.ensures.moved c.carry.ensures.carried
 
 pub returns-in-Err-clause-came : goal.returns-in-Err-clause-came
 returns-in-Err-clause-came g c before course h =
@@ -39,7 +39,7 @@ returns-in-Err-clause-came g c before course h =
     err_opened means before core c.args.out.now course c.args.cid.0 c.args.i c.args.from c.args.datagram.now c.open.new.datagram h
     (c.places_tell_of_clients.ensures.there core course.table c.args.cid.0 c.args.i h.table c.requires.place) v w c.value_at.ensures.value
     (with_value_at core.clients c.args.i w) (record { entries_are = c.lending_sets_the_value.ensures core.clients c.args.i w; admitted_is = refl; most_is = refl })
-    c.data_session-number.result
+    c.open.ensures.file c.data_session-number.result
     (λ p stands. c.data_session-number.ensures p (subst (λ v. means v.session p) (sym same) stands)
     ∙ ap (λ kid. usable_with p.timers core.moment.0 p.sessions kid) c.kid_in.ensures)
     c.refuse.new.core c.refuse.new.out false c.in-Err.fault c.in-Err.ensures.opened c.refuse.ensures.refused

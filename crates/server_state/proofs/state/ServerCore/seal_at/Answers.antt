@@ -10,7 +10,7 @@ returns-in-Ok-clause-sealed g c before course h =
     let v = c.value_at.result.now in
     let w = c.seal.new.self in
     ok_sealed g.S.ClientSession.stands before core c.args.out.now course h c.args.target.0 c.args.inner.now c.args.i c.requires.place c.args.to c.requires.key v w
-    c.value_at.ensures.value (with_value_at core.clients c.args.i w) (c.lending_sets_the_value.ensures core.clients c.args.i w) refl refl
+    c.value_at.ensures.value (with_value_at core.clients c.args.i w) (c.lending_sets_the_value.ensures core.clients c.args.i w) refl refl c.seal.ensures.file
     c.seal.new.out c.in-Ok.size c.count_up-self.result c.count_up-self.ensures c.in-Ok.ensures.sealed
 
 pub returns-in-Ok-clause-sound : goal.returns-in-Ok-clause-sound
@@ -28,7 +28,7 @@ returns-in-Err-clause-sealed g c before course h =
     let v = c.value_at.result.now in
     let w = c.seal.new.self in
     err_sealed g.S.ClientSession.stands before core c.args.out.now course h c.args.target.0 c.args.inner.now c.args.i c.requires.place c.args.to c.requires.key v w
-    c.value_at.ensures.value (with_value_at core.clients c.args.i w) (c.lending_sets_the_value.ensures core.clients c.args.i w) refl refl
+    c.value_at.ensures.value (with_value_at core.clients c.args.i w) (c.lending_sets_the_value.ensures core.clients c.args.i w) refl refl c.seal.ensures.file
     c.seal.new.out c.report.new.out c.in-Err.field-0 c.in-Err.ensures.sealed (c.report.ensures.reported before)
 
 pub returns-in-Err-clause-sound : goal.returns-in-Err-clause-sound

@@ -1,0 +1,4 @@
+pub mod Channels
+pub mod Heads
+pub mod Runs
+pub mod Standing
