@@ -7,3 +7,6 @@ mod Changed
 mod Short
 mod Ended
 mod Acted
+mod Counted
+mod Comings
+mod Made

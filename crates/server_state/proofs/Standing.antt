@@ -1,5 +1,5 @@
 -- Items that stand for the clients that are here: how they are found and changed.
-use Rattle.std.proofs.Common.{◌≡◌, ℕ, zero, suc, ◌+◌, ◌<◌, ◌==◌, Bool, true, false, cond, List, [], ◌∷◌, find, slice_get, option_map, Option, Some, None, refl, sym, ap, subst, ◌∙◌, arith}
+use Rattle.std.proofs.Common.{◌≡◌, ℕ, zero, suc, ◌+◌, ◌<◌, ◌==◌, Bool, true, false, cond, List, [], ◌∷◌, ◌++◌, length, find, slice_get, option_map, Option, Some, None, refl, sym, ap, subst, ◌∙◌, arith}
 use Rattle.std.proofs.lemmas.Bool.{false≢true}
 use Rattle.std.proofs.lemmas.Grind.{common_steps}
 use Rattle.peer_table.specs.Places.{changed_at, earlier, first_place}
@@ -176,3 +176,64 @@ module _ {E : Type 0} (IsOf : E → ℕ → Client → Type 0) (number : E → �
   pub located : (m : ℕ) (clients : List Client) → Locates m clients
   located m [] es n j is h = subst (λ es. IsLocated m es n j [] (table.place_where (has m) es)) (sym h) refl
   located m (x ∷ clients) es n j is h = located_step m n j x clients es x.is_here is refl h (located m clients)
+
+  -- ---- clients that come
+
+  come_step : (e : E) (x : Client) (n : ℕ) (y : Client) (clients : List Client) (es : List E) (b : Bool) → y.is_here ≡ b
+      → FirstStands IsOf (λ es. StandFrom IsOf es (suc n) clients) n y es b
+      → ((es : List E) → StandFrom IsOf es (suc n) clients → StandFrom IsOf (es ++ e ∷ []) (suc n) (clients ++ x ∷ []))
+      → FirstStands IsOf (λ es. StandFrom IsOf es (suc n) (clients ++ x ∷ [])) n y (es ++ e ∷ []) b
+  come_step e x n y clients [] true is h ih = absurd h
+  come_step e x n y clients (f ∷ es) true is h ih = (h.0, ih es h.1)
+  come_step e x n y clients es false is h ih = ih es h
+
+  -- one client more behind all others
+  pub come : (e : E) (x : Client) → x.is_here ≡ true → (clients : List Client) (es : List E) (n : ℕ) → IsOf e (n + length clients) x → StandFrom IsOf es n clients
+      → StandFrom IsOf (es ++ e ∷ []) n (clients ++ x ∷ [])
+  come e x here [] es n is h =
+      subst (λ es. StandFrom IsOf (es ++ e ∷ []) n (x ∷ [])) (sym h)
+      (subst (λ b. FirstStands IsOf (λ es. StandFrom IsOf es (suc n) []) n x (e ∷ []) b) (sym here)
+      (subst (λ k. IsOf e k x) (omega arith) is, refl))
+  come e x here (y ∷ clients) es n is h =
+      come_step e x n y clients es y.is_here refl h
+      (λ es h. come e x here clients es (suc n) (subst (λ k. IsOf e k x) (omega arith) is) h)
+
+  -- ---- clients that go
+
+  behind_first : (e : E) (es : List E) (o : Option ℕ) → table.without_where (table.earlier false o) (e ∷ es) ≡ e ∷ table.without_where o es
+  behind_first e es None = refl
+  behind_first e es (Some i) = refl
+
+  module _ (g : Client → Client) (gone : (y : Client) → (g y).is_here ≡ false) where
+    abbrev pub Goes : ℕ → List Client → Type 0
+    Goes m clients = (es : List E) (n j : ℕ) → m ≡ n + j → StandFrom IsOf es n clients
+        → StandFrom IsOf (table.without_where (table.place_where (has m) es) es) n (changed_at j g clients)
+
+    go_step : (m n j : ℕ) (x : Client) (clients : List Client) (es : List E) (b : Bool) → m ≡ n + j → x.is_here ≡ b
+        → FirstStands IsOf (λ es. StandFrom IsOf es (suc n) clients) n x es b → Goes m clients
+        → StandFrom IsOf (table.without_where (table.place_where (has m) es) es) n (changed_at j g (x ∷ clients))
+    go_step m n j x clients [] true is here h ih = absurd h
+    go_step m n zero x clients (e ∷ es) true is here h ih =
+        let same : m ≡ n = omega (arith, is) in
+        subst (λ b. StandFrom IsOf (table.without_where (table.earlier b (table.place_where (has m) es)) (e ∷ es)) n (g x ∷ clients))
+        (sym (is_same m (number e) (number_is e n x h.0 ∙ sym same)))
+        (subst (λ b. FirstStands IsOf (λ es. StandFrom IsOf es (suc n) clients) n (g x) es b) (sym (gone x)) h.1)
+    go_step m n (suc j) x clients (e ∷ es) true is here h ih =
+        let apart : (n == m) ≡ false = not_more m n j is (n == m) refl in
+        subst (λ b. StandFrom IsOf (table.without_where (table.earlier b (table.place_where (has m) es)) (e ∷ es)) n (x ∷ changed_at j g clients))
+        (sym (ap (λ k. k == m) (number_is e n x h.0) ∙ apart))
+        (subst (λ es. StandFrom IsOf es n (x ∷ changed_at j g clients)) (sym (behind_first e es (table.place_where (has m) es)))
+        (subst (λ b. FirstStands IsOf (λ es. StandFrom IsOf es (suc n) (changed_at j g clients)) n x (e ∷ table.without_where (table.place_where (has m) es) es) b)
+        (sym here) (h.0, ih es (suc n) j (omega (arith, is)) h.1)))
+    go_step m n zero x clients es false is here h ih =
+        let below : m < suc n = omega (arith, is) in
+        subst (λ o. StandFrom IsOf (table.without_where o es) n (g x ∷ clients)) (sym (none_below m clients es (suc n) below h))
+        (subst (λ b. FirstStands IsOf (λ es. StandFrom IsOf es (suc n) clients) n (g x) es b) (sym (gone x)) h)
+    go_step m n (suc j) x clients es false is here h ih =
+        subst (λ b. FirstStands IsOf (λ es. StandFrom IsOf es (suc n) (changed_at j g clients)) n x (table.without_where (table.place_where (has m) es) es) b)
+        (sym here) (ih es (suc n) j (omega (arith, is)) h)
+
+    -- the client of a number is not here any more
+    pub go : (m : ℕ) (clients : List Client) → Goes m clients
+    go m [] es n j is h = subst (λ es. StandFrom IsOf (table.without_where (table.place_where (has m) es) es) n []) (sym h) refl
+    go m (x ∷ clients) es n j is h = go_step m n j x clients es x.is_here is refl h (go m clients)

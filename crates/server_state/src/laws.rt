@@ -1,14 +1,14 @@
 //! Laws by which handlers prove that their core stands for the table still.
 
-ghost use Rattle.std.specs.Prelude.{◌≡◌, ◌+◌, ◌≤◌, ℕ, List, slice_get, option_map, Some, None, Result};
+ghost use Rattle.std.specs.Prelude.{◌≡◌, ◌+◌, ◌≤◌, ℕ, true, false, [], ◌∷◌, ◌++◌, length, List, slice_get, option_map, Some, None, Result};
 ghost use Rattle.client_table.specs.declared.table.ClientTable.{ClientTable};
-ghost use Rattle.client_table.specs.Changes.{number_where, place_of, with_value};
+ghost use Rattle.client_table.specs.Changes.{number_where, place_of, with_value, without};
 ghost use Rattle.client_table.specs.Finding.{has_name, has_peer_id, is_at};
 ghost use Rattle.client_table.specs.Tables.{entries_of};
 ghost use Rattle.vpn_base.specs.declared.address.Addr.{Addr};
 ghost use Rattle.vpn_base.specs.declared.names.Sid.{Sid};
 ghost use Rattle.server_table.specs.Lookups.{by_peer_id, by_session, client_here, established_named};
-ghost use Rattle.server_table.specs.Table.{Table};
+ghost use Rattle.server_table.specs.Table.{Client, Table};
 ghost use Rattle.server_state.specs.declared.client.ClientState.{ClientState};
 ghost use Rattle.server_state.specs.declared.state.ServerCore.{ServerCore};
 ghost use Rattle.vpn_links.specs.Actions.{Action, Contents};
@@ -17,9 +17,11 @@ ghost use Rattle.peer_table.specs.Peer.{Outcome};
 ghost use Rattle.peer_table.specs.declared.outcomes.Refused.{Refused};
 ghost use Rattle.peer_table.specs.declared.outcomes.Turn.{Turn};
 ghost use Rattle.server_table.specs.Courses.{Course, acted};
-ghost use Rattle.server_table.specs.Table.{Client};
 ghost use Rattle.server_state.specs.Calls.{HasCalled, opens_in};
-ghost use Rattle.server_state.specs.Core.{CoreStands, CourseStands, IsSound};
+ghost use Rattle.server_state.specs.Core.{CoreStands, CourseStands, IsOfClient, IsSound};
+ghost use Rattle.client_table.specs.Entries.{Entry};
+ghost use Rattle.peer_table.specs.Places.{changed_at};
+ghost use Rattle.server_state.specs.Standing.{StandFrom};
 ghost use Rattle.server_state.specs.Places.{IsChangedAt, IsThere};
 
 use peer_table::ClientSession;
@@ -67,4 +69,14 @@ pub fn calls_are_put_into_courses<S: ClientSession>()
         place_of core.turn.0 (entries_of core.clients) ≡ Some i → (x : Client) → client_here c.table core.turn.0 ≡ Some x →
         CourseStands S.stands before (record core { clients = ct; connections = core.connections + opens_in (actions_of o.peer.role o.doings) }) after
         (acted core.turn.0 x.address o c) }
+{}
+
+/// One client more stands behind all others, and one that goes is taken out under its number, in the table of
+/// clients as in the table for which the core stands.
+#[tactic(auto, using(crate::proofs::Comings::comes, crate::proofs::Comings::goes))]
+pub fn clients_come_and_go_alike<S: ClientSession>()
+    ensures comes { (core : ServerCore S) (t : Table) (e : Entry (ClientState S)) (x : Client) → CoreStands S.stands core t → IsOfClient S.stands e (length t.clients) x →
+        x.is_here ≡ true → StandFrom (IsOfClient S.stands) (entries_of core.clients ++ e ∷ []) 0 (t.clients ++ x ∷ []) }
+    ensures goes { (core : ServerCore S) (t : Table) (m : ℕ) (g : Client → Client) → CoreStands S.stands core t → ((y : Client) → (g y).is_here ≡ false) →
+        StandFrom (IsOfClient S.stands) (without m (entries_of core.clients)) 0 (changed_at m g t.clients) }
 {}

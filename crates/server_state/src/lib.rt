@@ -8,8 +8,10 @@ mod effects;
 mod ending;
 mod laws;
 mod lookups;
+mod making;
 mod packet;
 mod queue;
+mod room;
 mod sealing;
 mod state;
 mod verdicts;
@@ -19,9 +21,10 @@ pub use client::{ClientFile, ClientState};
 pub use effects::put;
 pub use laws::{
     a_changed_core_is_sound, calls_are_put_into_courses, clients_are_found_alike,
-    places_tell_of_clients,
+    clients_come_and_go_alike, places_tell_of_clients,
 };
 pub use packet::Packet;
 pub use queue::DeviceQueue;
+pub use room::peer_ids_are_given_alike;
 pub use sealing::count_up;
 pub use state::ServerCore;
