@@ -2,4 +2,6 @@ pub mod Puts
 pub mod Sessions
 pub mod Tests
 pub mod Brought
+pub mod Wraps
+pub mod Renewals
 pub mod internal
