@@ -48,7 +48,7 @@ line_if_quiet : (n : ℕ) (x : Client) (lines : List Action) (b : Bool) → carr
 line_if_quiet n x lines true quiet = quiet
 line_if_quiet n x lines false quiet = quiet
 
-lines_quiet : (n : ℕ) (clients : List Client) → carrying (count_lines n clients) ≡ []
+pub lines_quiet : (n : ℕ) (clients : List Client) → carrying (count_lines n clients) ≡ []
 lines_quiet n [] = refl
 lines_quiet n (x ∷ clients) = line_if_quiet n x (count_lines (suc n) clients) (is_counted x) (lines_quiet (suc n) clients)
 

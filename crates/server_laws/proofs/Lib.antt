@@ -16,3 +16,4 @@ pub mod Queue
 pub mod Runs
 pub mod Sealings
 pub mod Order
+pub mod Pings
