@@ -22,5 +22,4 @@ pub mod Runs
 pub mod RunLaws
 pub mod Lost
 pub mod StepLaws
-pub mod Wraps
 pub mod Renewals

@@ -17,3 +17,6 @@ pub mod Runs
 pub mod Sealings
 pub mod Order
 pub mod Pings
+pub mod WrapsOnce
+pub mod CallsKeep
+pub mod WrapRuns

@@ -30,7 +30,7 @@ use Rattle.server_table.specs.Time.{client_ticked, clients_ticked, count_lines, 
 use Rattle.server_laws.specs.HandedOn.{IsPingToOneHere, carrying, is_carrying}
 use Rattle.server_laws.specs.WellKept.{IsWellKept}
 use Rattle.server_laws.proofs.Places.{get_other}
-use Rattle.server_laws.proofs.Peers.{peer_same, tick_kept}
+use Rattle.server_laws.proofs.CallsKeep.{tick_call}
 use Rattle.server_laws.proofs.Closed.{here_at, turned_kept}
 use Rattle.server_laws.proofs.ClosedSteps.{lines_quiet, sealed_to_kept}
 use Rattle.server_laws.proofs.Dealing.{GoesTo, Sent, Spent as IsSpent, goes_to}
@@ -182,7 +182,7 @@ tick_for_pings n c None here is = later_pings n c is
 tick_for_pings n c (Some x) here is =
     let o = ticked (ticking_for c.table x) x.session in
     let d = acted n x.address o c in
-    let good : Good d = good_closed.acts n x o c here (tick_kept (ticking_for c.table x) x.session (peer_same x.session)) is.good in
+    let good : Good d = good_closed.acts n x o c here (tick_call (ticking_for c.table x) x.session) is.good in
     let e = turned n o.answer d in
     pinged_pings n e (client_here e.table n) refl
     (turned_pings n o.answer d (turned_kept good_closed n o.answer d good)

@@ -1,5 +1,5 @@
-use Rattle.control_laws.proofs.Wraps.{close_stay, control_accepted, control_again, control_stay, engine_stay, exchange_stay, message_stay, opened_stay, sealed_stay, tick_stay}
-use Rattle.control_laws.proofs.sessions.wraps_are_accepted_once.Goals as goal
+use Rattle.server_laws.proofs.WrapsOnce.{close_stay, control_accepted, control_again, control_stay, engine_stay, exchange_stay, message_stay, opened_stay, sealed_stay, tick_stay}
+use Rattle.server_laws.proofs.wraps.wraps_are_accepted_once.Goals as goal
 
 pub returns-clause-accepted : goal.returns-clause-accepted
 returns-clause-accepted c = control_accepted

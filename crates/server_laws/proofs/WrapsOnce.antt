@@ -1,5 +1,5 @@
 -- A client's session accepts each wrap once.
-use Rattle.std.proofs.Common.{◌≡◌, ◌≤◌, ◌-◌, ℕ, suc, ◌==◌, ◌&&◌, ◌||◌, Bool, true, false, List, [], ◌∷◌, ◌++◌, max, Option, Some, None, refl, sym, ap, ◌∙◌, inl, inr, arith, nat_le, nat_lt, Result, Err}
+use Rattle.std.proofs.Common.{◌≡◌, ◌≤◌, ◌-◌, ℕ, suc, ◌==◌, ◌&&◌, ◌||◌, Bool, true, false, List, [], ◌∷◌, ◌++◌, max, Option, Some, None, refl, sym, ap, ◌∙◌, subst, inl, inr, arith, nat_le, nat_lt, Result, Err}
 use Rattle.std.specs.Prelude.{◌⊎◌, slice_get, if◌then◌else◌}
 use Rattle.std.specs.List.{list_any}
 use Rattle.std.specs.Str.{bytes_eq}
@@ -37,7 +37,7 @@ use Rattle.peer_table.specs.KeySessions.{Keys, Session, Stage, keys_of, kid_of, 
 use Rattle.peer_table.specs.KeySessions as sessions
 use Rattle.peer_table.specs.Peer.{Outcome, Peer, answered, ready_sent_in, remote_of}
 use Rattle.peer_table.specs.Time.{Ticking, all_closed, gone_by, is_late, renewed, renews, resent, resent_in, retired, staying, ticked, ticked_idle, ticked_late}
-use Rattle.control_laws.specs.Wraps.{HasWrap, WrapsStay}
+use Rattle.server_laws.specs.Wraps.{HasWrap, WrapsStay}
 
 -- ---- a pair that was accepted is not fresh
 
@@ -106,6 +106,9 @@ never_again h time id now is =
     pair_not_fresh (id == 0) (is_none_of h.accepted) (nat_lt time (latest h.accepted)) (nat_lt (latest h.accepted) time) (ids.freshness (at_time h time) id now)
     (some_of time id h.accepted is) (not_later (latest h.accepted) time (upto_latest time id h.accepted is))
     (id_not_fresh (at_time h time) id now (of_its_time time id h.accepted is))
+
+pub not_again : (p : Peer) (time id : ℕ) (now : Moment) → HasWrap p time id → long_freshness p.envelope.accepted time id now ≡ Fresh → ⊥
+not_again p time id now is fresh = false≢true (sym (never_again p.envelope.accepted time id now is) ∙ ap is_fresh fresh)
 
 -- ---- one more is accepted
 
@@ -238,6 +241,15 @@ how_fresh p i = long_freshness p.envelope.accepted i.packet.time i.packet.id i.m
 pub control_accepted : (p : Peer) (i : Incoming) → HasWrap (control_came p i).peer i.packet.time i.packet.id ⊎ (control_came p i ≡ replayed p i)
 unfolding control_came
 control_accepted p i = judged_accepted p i (how_fresh p i)
+
+judged_fresh : (p : Peer) (i : Incoming) (f : Freshness) → f ≡ Fresh → HasWrap (judged p i f).peer i.packet.time i.packet.id
+judged_fresh p i f is = subst (λ (f : Freshness). HasWrap (judged p i f).peer i.packet.time i.packet.id) (sym is)
+    (accepts_has p i (placed p i (live_with p.timers i.moment.0 p.sessions (kid_in i))).peer (placed_accepts p i (live_with p.timers i.moment.0 p.sessions (kid_in i))))
+
+pub control_fresh : (p : Peer) (i : Incoming) → long_freshness p.envelope.accepted i.packet.time i.packet.id i.moment ≡ Fresh →
+    HasWrap (control_came p i).peer i.packet.time i.packet.id
+unfolding control_came
+control_fresh p i is = judged_fresh p i (how_fresh p i) is
 
 pub control_again : (p : Peer) (i : Incoming) → HasWrap p i.packet.time i.packet.id → control_came p i ≡ replayed p i
 unfolding control_came
