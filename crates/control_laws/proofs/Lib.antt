@@ -23,3 +23,4 @@ pub mod RunLaws
 pub mod Lost
 pub mod StepLaws
 pub mod Renewals
+pub mod RenewalSteps

@@ -5,7 +5,8 @@ use Rattle.std.proofs.lemmas.Bool.{and_from, eqb-true, false≢true, le-leb, or_
 use Rattle.vpn_base.specs.declared.names.Timers.{Timers}
 use Rattle.control_link.specs.Calls as link
 use Rattle.peer_table.specs.declared.outcomes.Turn.{Turn}
-use Rattle.peer_table.specs.declared.outcomes.Turn.TheVariants.{Going}
+use Rattle.vpn_base.specs.declared.names.Cause.TheVariants.{PingRestart}
+use Rattle.peer_table.specs.declared.outcomes.Turn.TheVariants.{Going, Over}
 use Rattle.peer_table.specs.ControlPackets.{is_finished_as, newest_is_finished, next_session, with_next}
 use Rattle.peer_table.specs.Exchange.{session_closed}
 use Rattle.peer_table.specs.KeySessions.{Session, began_before, closed, has_keys, has_passed, newest, newest_session}
@@ -114,3 +115,19 @@ keys_renewed p t s established idle there keyed due =
     (ap (λ (b : Bool). not b && began_before p.timers.hand t.at (newest_session p.sessions)) done) idle
     (and_from (newest_is_finished t.established p.sessions && t.established) (is_worn p.timers t.at (newest_session p.sessions))
     (and_from (newest_is_finished t.established p.sessions) t.established done established) old)
+
+over_idle : (p : Peer) (t : Ticking) (b : Bool) → b ≡ true → (ticked_idle p t b).answer ≡ Over PingRestart
+over_idle p t true is = refl
+over_idle p t false is = absurd (false≢true is)
+
+late_over : (p : Peer) (t : Ticking) (b : Bool) → b ≡ false → t.idle ≡ true → (ticked_late p t b).answer ≡ Over PingRestart
+late_over p t true is idle = absurd (false≢true (sym is))
+late_over p t false is idle = over_idle p t t.idle idle
+
+-- silence for too long ends it first
+pub idle_ends : (p : Peer) (t : Ticking) (s : Session) → t.established ≡ true → t.idle ≡ true → newest_session p.sessions ≡ Some s → has_keys s ≡ true →
+    (ticked t p).answer ≡ Over PingRestart
+unfolding ticked
+idle_ends p t s established idle there keyed =
+    late_over p t (is_late p t)
+    (ap (λ (b : Bool). not b && began_before p.timers.hand t.at (newest_session p.sessions)) (finished t.established p.sessions s established there keyed)) idle
