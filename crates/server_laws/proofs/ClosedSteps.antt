@@ -52,7 +52,7 @@ pub lines_quiet : (n : ℕ) (clients : List Client) → carrying (count_lines n 
 lines_quiet n [] = refl
 lines_quiet n (x ∷ clients) = line_if_quiet n x (count_lines (suc n) clients) (is_counted x) (lines_quiet (suc n) clients)
 
-last_here : (from : Addr) (c : Course) (peer : Peer) →
+pub last_here : (from : Addr) (c : Course) (peer : Peer) →
     client_here (with_admitted (client_begun c.table from peer) c).table (length c.table.clients) ≡ Some (client_begun c.table from peer)
 last_here from c peer =
     here_from (with_admitted (client_begun c.table from peer) c).table (length c.table.clients) (client_begun c.table from peer)

@@ -16,6 +16,7 @@ ghost use Rattle.peer_table.specs.Exchange.{after_message, exchanged};
 ghost use Rattle.peer_table.specs.Peer.{Peer, answered};
 ghost use Rattle.peer_table.specs.Time.{Ticking, all_closed, ticked};
 ghost use Rattle.server_table.specs.Table.{table_begun};
+ghost use Rattle.server_table.specs.ControlDatagrams.{ControlPacket};
 ghost use Rattle.server_table.specs.Runs.{Entry, after_all};
 ghost use Rattle.server_laws.specs.Wraps.{AcceptsWrap, HasWrap, WrapsStay};
 
@@ -37,13 +38,14 @@ pub fn wraps_are_accepted_once()
     ensures close { (p : Peer) → WrapsStay p (all_closed p) }
 {}
 
-/// No two events of a run have a wrap of one time and id accepted of one client, unless the first one lacked
-/// memory as a whole.
+/// No two events of a run have a wrap of one time and id accepted of one client, that of the packet which
+/// admits the client included, unless the first one lacked memory as a whole.
 pub fn no_wrap_is_accepted_twice()
-    ensures { (settings : Settings) (key : List ℕ) (before between : List Entry) (first : Entry) (second : Event) (n time id : ℕ) →
+    ensures { (settings : Settings) (key : List ℕ) (before between : List Entry) (first : Entry) (second : Event) (n : ℕ) (r q : ControlPacket) →
         first.1 ≢ LacksAll →
-        AcceptsWrap (after_all (table_begun settings key) before) first.0 n time id →
-        AcceptsWrap (after_all (table_begun settings key) (before ++ first ∷ between)) second n time id → ⊥ }
+        AcceptsWrap (after_all (table_begun settings key) before) first.0 n r →
+        AcceptsWrap (after_all (table_begun settings key) (before ++ first ∷ between)) second n q →
+        r.packet.time ≡ q.packet.time → r.packet.id ≡ q.packet.id → ⊥ }
 {
     server_table::tables_stay_sound();
 }
