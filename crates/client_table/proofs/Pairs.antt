@@ -86,6 +86,11 @@ module _ {V : Type 0} where
   value_there keys values i v same within is =
       sym (value_at keys values (Some i) same) ∙ slice_get_read values (length values) i v refl (subst (λ n. i < n) (sym same) within) is
 
+  pub key_there : (keys : List Key) (values : List V) (i : ℕ) (k : Key) → length values ≡ length keys → i < length keys → k ≡ get_or keys i k
+      → option_map (λ e. e.key) (slice_get (entries keys values) i) ≡ Some k
+  key_there keys values i k same within is =
+      sym (key_at keys values (Some i) same) ∙ slice_get_read keys (length keys) i k refl within is
+
   -- those of the client of a number, by its place
   pub key_found : (n : ℕ) (keys : List Key) (values : List V) (o : Option ℕ) → length values ≡ length keys → o ≡ place_of n (entries keys values)
       → item_at keys o ≡ option_map (λ e. e.key) (entry_where (has_number n) (entries keys values))

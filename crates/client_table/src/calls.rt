@@ -135,6 +135,24 @@ impl<V> ClientTable<V> {
         }
     }
 
+    /// What the client at a place is found by.
+    #[tactic(auto, using(crate::proofs::Pairs::length_is, crate::proofs::Pairs::key_there))]
+    pub fn key_at(&self, i: usize) -> &Key
+        requires { i < length (entries_of self.now) }
+        ensures { option_map (λ e. e.key) (slice_get (entries_of self.now) i) ≡ Some result.now }
+    {
+        &self.keys[i]
+    }
+
+    /// The value at a place.
+    #[tactic(auto, using(crate::proofs::Pairs::length_is, crate::proofs::Pairs::value_there))]
+    pub fn look_at(&self, i: usize) -> &V
+        requires { i < length (entries_of self.now) }
+        ensures { option_map (λ e. e.value) (slice_get (entries_of self.now) i) ≡ Some result.now }
+    {
+        &self.values[i]
+    }
+
     /// Lends the value at a place.
     #[tactic(auto, using(crate::proofs::Pairs::length_is, crate::proofs::Pairs::value_there, crate::proofs::Pairs::value_set))]
     pub fn value_at(&mut self, i: usize) -> &mut V

@@ -24,7 +24,7 @@ fn append<T: Drop>(items: &mut Vec<T>, last: T)
     let _ = pushed;
 }
 
-impl<V: Drop> ClientTable<V> {
+impl<V> ClientTable<V> {
     /// Takes the memory for one client more. After want of memory the table is as before.
     pub fn reserve(&mut self) -> Result<(), NoMemory>
         ensures same { Has self.new (entries_of self.old) (most_of self.old) (admitted_by self.old) }
@@ -45,7 +45,9 @@ impl<V: Drop> ClientTable<V> {
     {
         free_in(&self.keys)
     }
+}
 
+impl<V: Drop> ClientTable<V> {
     // Puts a client behind all others.
     #[tactic(auto, using(crate::proofs::Pairs::length_is, crate::proofs::Pairs::one_more, crate::proofs::Rising::rise_more, crate::proofs::Rising::below_more))]
     fn put(&mut self, peer_id: u32, from: Addr, sid: Sid, value: V) -> Cid
@@ -91,7 +93,9 @@ impl<V: Drop> ClientTable<V> {
             Err(NoMemory) => Err((value, Or::Memory)),
         }
     }
+}
 
+impl<V> ClientTable<V> {
     #[tactic(auto, using(crate::proofs::Pairs::length_is, crate::proofs::Pairs::key_set))]
     fn set_address(&mut self, i: usize, to: Addr)
         requires { i < length (entries_of self.old) }

@@ -6,7 +6,7 @@ ghost use Rattle.data_channel.specs.Standing.{by_role};
 ghost use Rattle.peer_table.specs.Peer.{other};
 ghost use Rattle.peer_table.specs.DataPackets.{cipher_key, half_of, implicit_bytes};
 
-use gcm_seal::{Aead, AnyGcm, Gcm128, Gcm256};
+use gcm_seal::{AnyGcm, Gcm128, Gcm256};
 use hmac_kit::KeyBlock;
 use vpn_base::{Cipher, Role};
 

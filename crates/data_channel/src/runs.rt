@@ -1,6 +1,6 @@
 //! Whole runs of a data channel.
 
-ghost use Rattle.std.specs.Prelude.{◌≡◌, ◌≤◌, ◌<◌, ◌^◌, List, length, IfOk, OnOk};
+ghost use Rattle.std.specs.Prelude.{◌≡◌, ◌≤◌, ◌<◌, ◌^◌, length, IfOk, OnOk};
 ghost use Rattle.data_channel.specs.Channels.{Channel};
 ghost use Rattle.data_channel.specs.Runs.{after_event, after_opening, after_sealing, answer_of, answers_of, channel_begun, opening_answer, seal_answer};
 ghost use Rattle.data_channel.specs.Standing.{GcmStands};

@@ -19,8 +19,6 @@ use Rattle.schedule_text.specs.Draws.{draw_of}
 use Rattle.schedule_text.specs.RouteLine.{is_blank, longest_line}
 use Rattle.schedule_text.specs.Words.{bytes_of, words_of}
 
--- ---- what words spell
-
 -- the longest HEX word, in characters
 abbrev pub longest_bytes : ℕ
 longest_bytes = 131072
@@ -44,8 +42,6 @@ last_bytes (word ∷ more) =
     if nat_lt longest_bytes (length word) then Err kinds.Long
     else if are_none more then Ok word
     else Err kinds.Words
-
--- ---- what comes
 
 -- bytes are spelled, or the digits are at fault
 abbrev pub spelled : Option (List ℕ) → Result (List ℕ) TextKind
@@ -169,8 +165,6 @@ kind_line word arguments =
     else if bytes_eq word (codes "tick") then plain_line events.Tick (are_none arguments)
     else if bytes_eq word (codes "halt") then plain_line events.Halt (are_none arguments)
     else Err kinds.Words
-
--- ---- lines
 
 -- `at MS` and what comes: its words are judged before the moment, and the moment before all else of it
 abbrev pub timed : Option ℕ → Result Kind TextKind → List ℕ → Result Line TextKind

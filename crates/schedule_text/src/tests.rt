@@ -6,8 +6,8 @@ use super::*;
 use std::alloc::Global;
 use std::test::Fail;
 use vpn_base::{
-    Addr, Bytes, Cause, Cid, Conn, Freshness, Ip4, Malformed, Moment, NoMemory, Or, Prefix,
-    Role, RouteList, Sid, Text, TextList,
+    Addr, Bytes, Cause, Cid, Conn, Freshness, Ip4, Malformed, Moment, NoMemory, Or, Prefix, Role,
+    RouteList, Sid, Text, TextList,
 };
 use vpn_links::{Effect, Event, FileAnswer, Kind, Note};
 
@@ -187,9 +187,66 @@ fn is_line(alloc: Global, e: &Effect<'_>, wanted: &str) -> Result<bool, NoMemory
     Ok(line.as_slice() == wanted.as_bytes())
 }
 
+const CONN: Conn = Conn(3);
+
+const BYTES: &[u8] = b"\xAB\x0C";
+
+const EFFECTS: [(Effect<'static>, &str); 11] = [
+    (
+        Effect::Wire {
+            to: PEER,
+            bytes: BYTES,
+        },
+        "12 wire 192.0.2.7:40000 ab0c\n",
+    ),
+    (
+        Effect::EngineOpen {
+            conn: CONN,
+            role: Role::Server,
+        },
+        "12 engineopen 3 server\n",
+    ),
+    (
+        Effect::EngineOpen {
+            conn: CONN,
+            role: Role::Client,
+        },
+        "12 engineopen 3 client\n",
+    ),
+    (
+        Effect::EnginePut {
+            conn: CONN,
+            bytes: b"",
+        },
+        "12 engineput 3 -\n",
+    ),
+    (
+        Effect::EngineWrite {
+            conn: CONN,
+            bytes: BYTES,
+        },
+        "12 enginewrite 3 ab0c\n",
+    ),
+    (Effect::EngineClose { conn: CONN }, "12 engineclose 3\n"),
+    (Effect::Device { bytes: BYTES }, "12 device ab0c\n"),
+    (
+        Effect::Ask {
+            cid: CID,
+            name: b"alice",
+        },
+        "12 ask 9 alice\n",
+    ),
+    (Effect::Say { bytes: b"a b" }, "12 say a b\n"),
+    (Effect::Report(Note::NoMemory), "12 report no-memory\n"),
+    (Effect::Stop, "12 stop\n"),
+];
+
 #[test]
 fn each_effect_is_written(rt: HostRuntime) -> Result<(), Fail> {
     let alloc = rt.alloc();
+    for (effect, wanted) in EFFECTS.as_slice() {
+        assert!(rt; is_line(alloc, effect, wanted)?);
+    }
     let mut routes = RouteList::new(alloc);
     if let Some(route) = Prefix::new(Ip4(0x0A09_0000), 16) {
         routes.add(route)?;
@@ -197,69 +254,124 @@ fn each_effect_is_written(rt: HostRuntime) -> Result<(), Fail> {
     let mut rest = TextList::new(alloc);
     rest.add(Text::copy(alloc, b"dhcp")?)?;
     rest.add(Text::copy(alloc, b"")?)?;
-    let address = Ip4(0x0A08_0002);
-    let (conn, bytes) = (Conn(3), b"\xAB\x0C".as_slice());
-    let effects = [
-        (Effect::Wire { to: PEER, bytes }, "12 wire 192.0.2.7:40000 ab0c\n"),
-        (Effect::EngineOpen { conn, role: Role::Server }, "12 engineopen 3 server\n"),
-        (Effect::EngineOpen { conn, role: Role::Client }, "12 engineopen 3 client\n"),
-        (Effect::EnginePut { conn, bytes: b"" }, "12 engineput 3 -\n"),
-        (Effect::EngineWrite { conn, bytes }, "12 enginewrite 3 ab0c\n"),
-        (Effect::EngineClose { conn }, "12 engineclose 3\n"),
-        (Effect::Device { bytes }, "12 device ab0c\n"),
+    for (gateway, wanted) in [
         (
-            Effect::Configure { address, len: 24, gateway: None, routes: &routes, rest: &rest },
+            None,
             "12 configure 10.8.0.2/24 none 10.9.0.0/16 64686370 -\n",
         ),
         (
-            Effect::Configure { address, len: 8, gateway: Some(Ip4(1)), routes: &routes, rest: &rest },
-            "12 configure 10.8.0.2/8 0.0.0.1 10.9.0.0/16 64686370 -\n",
+            Some(Ip4(1)),
+            "12 configure 10.8.0.2/24 0.0.0.1 10.9.0.0/16 64686370 -\n",
         ),
-        (Effect::Ask { cid: Cid(9), name: b"alice" }, "12 ask 9 alice\n"),
-        (Effect::Say { bytes: b"a b" }, "12 say a b\n"),
-        (Effect::Report(Note::NoMemory), "12 report no-memory\n"),
-        (Effect::Stop, "12 stop\n"),
-    ];
-    for (effect, wanted) in effects.as_slice() {
-        assert!(rt; is_line(alloc, effect, wanted)?);
+    ]
+    .as_slice()
+    {
+        let setup = Effect::Configure {
+            address: Ip4(0x0A08_0002),
+            len: 24,
+            gateway: *gateway,
+            routes: &routes,
+            rest: &rest,
+        };
+        assert!(rt; is_line(alloc, &setup, wanted)?);
     }
     Ok(())
 }
 
+const CID: Cid = Cid(9);
+
+const NOTES: [(Note, &str); 27] = [
+    (
+        Note::Malformed {
+            kind: Malformed::NoRemote,
+            first: Some(0x0F),
+        },
+        "malformed no-remote 0f",
+    ),
+    (
+        Note::Malformed {
+            kind: Malformed::Empty,
+            first: None,
+        },
+        "malformed empty -",
+    ),
+    (Note::NotWrapped, "not-wrapped"),
+    (Note::Replayed { time: 1, id: 2 }, "replayed 1 2"),
+    (Note::UnknownPeer { peer: 1 }, "unknown-peer 1"),
+    (
+        Note::UnknownSession {
+            sid: Sid([0, 1, 2, 3, 4, 5, 6, 0xFF]),
+        },
+        "unknown-session 00010203040506ff",
+    ),
+    (Note::UnknownConn { conn: CONN }, "unknown-conn 3"),
+    (Note::Full { most: 1 }, "full 1"),
+    (Note::BadKey { cid: CID, kid: 7 }, "bad-key 9 7"),
+    (Note::NotSealed { cid: CID }, "not-sealed 9"),
+    (
+        Note::Stale {
+            cid: CID,
+            kind: Freshness::Old,
+            id: 1,
+            greatest: 2,
+        },
+        "stale 9 old 1 2",
+    ),
+    (Note::Ping { cid: CID }, "ping 9"),
+    (Note::NotIp { from: Some(CID) }, "not-ip 9"),
+    (Note::TooLong { from: None }, "too-long device"),
+    (Note::Multicast { from: Some(CID) }, "multicast 9"),
+    (
+        Note::BadSource {
+            cid: CID,
+            owner: None,
+        },
+        "bad-source 9 none",
+    ),
+    (
+        Note::BadSource {
+            cid: CID,
+            owner: Some(Cid(8)),
+        },
+        "bad-source 9 8",
+    ),
+    (Note::NoRoute, "no-route"),
+    (Note::KeySpent { cid: CID }, "key-spent 9"),
+    (Note::QueueFull { cid: CID }, "queue-full 9"),
+    (
+        Note::Moved { cid: CID, to: PEER },
+        "moved 9 192.0.2.7:40000",
+    ),
+    (
+        Note::NotLearned {
+            cid: CID,
+            host: Ip4(1),
+        },
+        "not-learned 9 0.0.0.1",
+    ),
+    (Note::Ignored { cid: CID }, "ignored 9"),
+    (Note::Unasked { cid: CID }, "unasked 9"),
+    (Note::NotUp, "not-up"),
+    (
+        Note::Ended {
+            cid: CID,
+            cause: Cause::PoolEmpty,
+        },
+        "ended 9 pool-empty",
+    ),
+    (
+        Note::Ended {
+            cid: CID,
+            cause: Cause::BadMessage { place: 4 },
+        },
+        "ended 9 bad-message 4",
+    ),
+];
+
 #[test]
 fn each_note_is_written(rt: HostRuntime) -> Result<(), Fail> {
     let alloc = rt.alloc();
-    let (cid, from) = (Cid(9), Some(Cid(9)));
-    let notes = [
-        (Note::Malformed { kind: Malformed::NoRemote, first: Some(0x0F) }, "malformed no-remote 0f"),
-        (Note::Malformed { kind: Malformed::Empty, first: None }, "malformed empty -"),
-        (Note::NotWrapped, "not-wrapped"),
-        (Note::Replayed { time: 1, id: 2 }, "replayed 1 2"),
-        (Note::UnknownPeer { peer: 1 }, "unknown-peer 1"),
-        (Note::UnknownSession { sid: Sid([0, 1, 2, 3, 4, 5, 6, 0xFF]) }, "unknown-session 00010203040506ff"),
-        (Note::UnknownConn { conn: Conn(3) }, "unknown-conn 3"),
-        (Note::Full { most: 1 }, "full 1"),
-        (Note::BadKey { cid, kid: 7 }, "bad-key 9 7"),
-        (Note::NotSealed { cid }, "not-sealed 9"),
-        (Note::Stale { cid, kind: Freshness::Old, id: 1, greatest: 2 }, "stale 9 old 1 2"),
-        (Note::Ping { cid }, "ping 9"),
-        (Note::NotIp { from }, "not-ip 9"),
-        (Note::TooLong { from: None }, "too-long device"),
-        (Note::Multicast { from }, "multicast 9"),
-        (Note::BadSource { cid, owner: None }, "bad-source 9 none"),
-        (Note::BadSource { cid, owner: Some(Cid(8)) }, "bad-source 9 8"),
-        (Note::NoRoute, "no-route"),
-        (Note::KeySpent { cid }, "key-spent 9"),
-        (Note::QueueFull { cid }, "queue-full 9"),
-        (Note::Moved { cid, to: PEER }, "moved 9 192.0.2.7:40000"),
-        (Note::NotLearned { cid, host: Ip4(1) }, "not-learned 9 0.0.0.1"),
-        (Note::Ignored { cid }, "ignored 9"),
-        (Note::Unasked { cid }, "unasked 9"),
-        (Note::NotUp, "not-up"),
-        (Note::Ended { cid, cause: Cause::PoolEmpty }, "ended 9 pool-empty"),
-        (Note::Ended { cid, cause: Cause::BadMessage { place: 4 } }, "ended 9 bad-message 4"),
-    ];
-    for (note, wanted) in notes.as_slice() {
+    for (note, wanted) in NOTES.as_slice() {
         let line = format!(in alloc; "12 report {wanted}\n")?;
         assert!(rt; is_line(alloc, &Effect::Report(*note), &line)?);
     }
@@ -276,7 +388,12 @@ const DRAWS: [(u32, u64, u64, u64); 9] = [
     (1_000_000, 1, 0x45b3_5179_a860_be00, 0xbb02_812b_3a3e_93b6),
     (0, u64::MAX, 0xeb41_53da_6bee_a23f, 0x2ed2_1113_3530_d412),
     (1, u64::MAX, 0x9e77_a3d4_2a4a_0684, 0xf9d1_d85a_a672_91d1),
-    (1_000_000, u64::MAX, 0x272a_9761_dafd_37f1, 0x443d_bed6_168f_9ee2),
+    (
+        1_000_000,
+        u64::MAX,
+        0x272a_9761_dafd_37f1,
+        0x443d_bed6_168f_9ee2,
+    ),
 ];
 
 fn eight(bytes: &[u8], at: usize) -> [u8; 8]

@@ -1,0 +1,8 @@
+pub mod Names
+pub mod Sessions
+pub mod Slots
+pub mod Changes
+pub mod Looks
+pub mod Lending
+pub mod Runs
+pub mod internal

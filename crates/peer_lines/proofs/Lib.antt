@@ -1,0 +1,7 @@
+pub mod Nuls
+pub mod Packets
+pub mod Links
+pub mod Texts
+pub mod Taking
+pub mod Stages
+pub mod GoingOn

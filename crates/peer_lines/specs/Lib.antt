@@ -1,0 +1,4 @@
+pub mod Standing
+pub mod Rooms
+pub mod Calls
+pub mod internal

@@ -1,0 +1,4 @@
+pub mod Fronts
+pub mod Replay
+pub mod Schedule
+pub mod internal

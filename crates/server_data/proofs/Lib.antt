@@ -1,0 +1,5 @@
+mod Learned
+mod Passed
+mod Moved
+mod Opened
+mod Accepted

@@ -1,0 +1,9 @@
+mod Standing
+mod Courses
+mod Found
+mod Waiting
+mod Sealed
+mod Changed
+mod Short
+mod Ended
+mod Acted
