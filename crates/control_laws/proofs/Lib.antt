@@ -22,3 +22,5 @@ pub mod Runs
 pub mod RunLaws
 pub mod Lost
 pub mod StepLaws
+pub mod Renewals
+pub mod RenewalSteps

@@ -2,4 +2,5 @@ pub mod Puts
 pub mod Sessions
 pub mod Tests
 pub mod Brought
+pub mod Renewals
 pub mod internal

@@ -4,8 +4,10 @@
 #![tactic(auto)]
 
 mod laws;
+mod sessions;
 
 pub use laws::{
     connections_are_never_shared, control_text_is_put_in_order, control_text_was_brought,
     no_control_packet_is_lost, what_was_taken_stays,
 };
+pub use sessions::keys_are_renewed;

@@ -25,7 +25,7 @@ use Rattle.server_table.specs.ControlDatagrams.{client_begun, session_begun, wit
 use Rattle.server_laws.specs.HandedOn.{carrying}
 use Rattle.server_laws.specs.WellKept.{HaveKeys}
 use Rattle.server_laws.proofs.Places.{none_some, some_same}
-use Rattle.server_laws.proofs.Peers.{PeerExchanged, PeerKept}
+use Rattle.server_laws.proofs.CallsKeep.{CallKept, ExchangeKept}
 
 -- ---- clients
 
@@ -34,7 +34,7 @@ pub record ClientKept (y z : Client) : Type 0 where
   pub here : z.is_here ≡ y.is_here
   pub peer_id : z.peer_id ≡ y.peer_id
   pub established : z.established ≡ y.established
-  pub session : PeerKept y.session z.session
+  pub session : CallKept y.session z.session
   pub file : (ccd : Ccd) → y.file ≡ Known ccd → z.file ≡ Known ccd
 
 -- the client of a number that is here
@@ -77,9 +77,9 @@ pub record IsClosed (P : Course → Type 0) : Type 0 where
   pub quiet : (actions : List Action) (c : Course) → carrying actions ≡ [] → P c → P (did_all actions c)
   pub other : (went : Option (ℕ × ℕ)) (counted into outof : ℕ) (stopped : Bool) (c : Course) → P c →
       P (record c { table = record c.table { last_taken = went; counted_at = counted; bytes_in = into; bytes_out = outof; is_stopped = stopped } })
-  pub acts : (n : ℕ) (x : Client) (o : Outcome Turn) (c : Course) → client_here c.table n ≡ Some x → PeerKept x.session o.peer → P c → P (acted n x.address o c)
+  pub acts : (n : ℕ) (x : Client) (o : Outcome Turn) (c : Course) → client_here c.table n ≡ Some x → CallKept x.session o.peer → P c → P (acted n x.address o c)
   pub exchanges : (n : ℕ) (x : Client) (ccd : Ccd) (o : Outcome Turn) (c : Course) → client_here c.table n ≡ Some x → x.file ≡ Known ccd →
-      PeerExchanged x.peer_id x.session o.peer → P c → P (acted n x.address o c)
+      ExchangeKept x.peer_id x.session o.peer → P c → P (acted n x.address o c)
   pub alters : (n : ℕ) (f : Client → Client) (c : Course) → ((y : Client) → slice_get c.table.clients n ≡ Some y → ClientKept y (f y)) → P c →
       P (client_changed n f c)
   pub ends : (n : ℕ) (cause : Cause) (x : Client) (c : Course) → client_here c.table n ≡ Some x → P c → P (ended_as n cause c (Some x))
@@ -106,7 +106,7 @@ module _ {P : Course → Type 0} (closed : IsClosed P) where
   reported_kept note c is = closed.quiet (Report note ∷ []) c refl is
 
   -- a call of a client's session, whatever it answers
-  pub acted_kept : {A : Type 0} (n : ℕ) (x : Client) (o : Outcome A) (c : Course) → client_here c.table n ≡ Some x → PeerKept x.session o.peer → P c → P (acted n x.address o c)
+  pub acted_kept : {A : Type 0} (n : ℕ) (x : Client) (o : Outcome A) (c : Course) → client_here c.table n ≡ Some x → CallKept x.session o.peer → P c → P (acted n x.address o c)
   acted_kept n x o c here peer is =
       closed.acts n x (record { peer = o.peer; doings = o.doings; datagrams = o.datagrams; answer = Going }) c here peer is
 

@@ -35,7 +35,8 @@ use Rattle.server_table.specs.Exchange.{asks_to_be_established, established_as_a
 use Rattle.server_laws.specs.HandedOn.{carrying}
 use Rattle.server_laws.specs.WellKept.{HaveKeys}
 use Rattle.server_laws.proofs.Places.{first_is, get_changed, get_other, none_some, some_same}
-use Rattle.server_laws.proofs.Peers.{PeerKept, engine_kept, exchange_kept, keys_at, message_kept, peer_same}
+use Rattle.server_laws.proofs.Peers.{keys_at}
+use Rattle.server_laws.proofs.CallsKeep.{CallKept, call_same, engine_call, exchange_call, message_call}
 use Rattle.server_laws.proofs.Closed.{IsClosed, IsReady, altered, ended_kept, here_at, reported_kept, turned_kept}
 
 -- ---- what is told
@@ -170,11 +171,11 @@ module _ {P : Course → Type 0} (closed : IsClosed P) where
   taken_of_kept behind keeps n x c (Some m) here next is =
       let f : Client → Client = λ x. record x { session = after_message x.session } in
       let d = client_changed n f c in
-      let peer = message_kept x.session (peer_same x.session) in
+      let peer = message_call x.session in
       let there : slice_get d.table.clients n ≡ Some (f x) = get_changed n f c.table.clients x (here_at c.table n x here).there in
       keeps (message_came n d m.0 m.1)
       (message_came_kept n d m.0 m.1
-      (λ y at. subst (λ (z : Client). HaveKeys z.session.sessions) (some_same (sym there ∙ (here_at d.table n y at).there)) (peer.keys (next_keys x.session m next)))
+      (λ y at. subst (λ (z : Client). HaveKeys z.session.sessions) (some_same (sym there ∙ (here_at d.table n y at).there)) (peer.kept.keys (next_keys x.session m next)))
       (altered closed n x f c here (record { here = refl; peer_id = refl; established = refl; session = peer; file = λ file e. e }) is))
 
   taken_by_kept : (behind : Course → Course) → ((c : Course) → P c → P (behind c)) → (n : ℕ) (c : Course) (x : Option Client) → client_here c.table n ≡ x → P c →
@@ -227,7 +228,7 @@ module _ {P : Course → Type 0} (closed : IsClosed P) where
       let o = exchanged policy x.peer_id draw x.session in
       made_kept n (turned n o.answer (acted n x.address o c))
       (turned_kept closed n o.answer (acted n x.address o c)
-      (closed.exchanges n x file o c here known (exchange_kept policy x.peer_id draw x.session) is))
+      (closed.exchanges n x file o c here known (exchange_call policy x.peer_id draw x.session) is))
   exchange_with_kept draw n x c (Awaited name) here known is = is
   exchange_with_kept draw n x c Unasked here known is = is
 
@@ -244,7 +245,7 @@ module _ {P : Course → Type 0} (closed : IsClosed P) where
   file_is_kept : (n : ℕ) (x : Client) (file : FileState) (c : Course) → client_here c.table n ≡ Some x → is_known x.file ≡ false → P c → P (file_is n file c)
   file_is_kept n x file c here unknown is =
       altered closed n x (λ x. record x { file = file }) c here
-      (record { here = refl; peer_id = refl; established = refl; session = peer_same x.session; file = λ known e. absurd (not_known x unknown known e) }) is
+      (record { here = refl; peer_id = refl; established = refl; session = call_same x.session; file = λ known e. absurd (not_known x unknown known e) }) is
 
   asked_for_kept : (n : ℕ) (x : Client) (name : List ℕ) (c : Course) → client_here c.table n ≡ Some x → is_known x.file ≡ false → P c → P (asked_for n name c)
   asked_for_kept n x name c here unknown is = closed.quiet (Ask (cid n) name ∷ []) (file_is n (Awaited name) c) refl (file_is_kept n x (Awaited name) c here unknown is)
@@ -290,11 +291,11 @@ module _ {P : Course → Type 0} (closed : IsClosed P) where
   gone_on_kept draw n c Exchange is = unread_kept n (exchange draw n (asked n c)) (exchange_course_kept draw n (asked n c) (asked_kept n c is))
   gone_on_kept draw n c (Over cause) is = ended_kept closed n cause c is
 
-  engine_acted_kept : (draw : Draw) (n : ℕ) (x : Client) (c : Course) (o : Outcome Turn) → client_here c.table n ≡ Some x → PeerKept x.session o.peer → P c →
+  engine_acted_kept : (draw : Draw) (n : ℕ) (x : Client) (c : Course) (o : Outcome Turn) → client_here c.table n ≡ Some x → CallKept x.session o.peer → P c →
       P (engine_acted draw n x c o)
   engine_acted_kept draw n x c o here peer is = gone_on_kept draw n (acted n x.address o c) o.answer (closed.acts n x o c here peer is)
 
-  answer_acted_kept : (draw : Draw) (n : ℕ) (x : Client) (c : Course) (kind : Kind) (o : Outcome Turn) → client_here c.table n ≡ Some x → PeerKept x.session o.peer → P c →
+  answer_acted_kept : (draw : Draw) (n : ℕ) (x : Client) (c : Course) (kind : Kind) (o : Outcome Turn) → client_here c.table n ≡ Some x → CallKept x.session o.peer → P c →
       P (answer_acted draw n x c kind o)
   answer_acted_kept draw n x c (EngineText conn bytes) o here peer is = turned_kept closed n o.answer (acted n x.address o c) (closed.acts n x o c here peer is)
   answer_acted_kept draw n x c kind o here peer is = engine_acted_kept draw n x c o here peer is
@@ -302,7 +303,7 @@ module _ {P : Course → Type 0} (closed : IsClosed P) where
   answer_for_kept : (draw : Draw) (kind : Kind) (n : ℕ) (c : Course) (x : Option Client) → client_here c.table n ≡ x → P c → P (answer_for draw kind n c x)
   answer_for_kept draw kind n c None here is = is
   answer_for_kept draw kind n c (Some x) here is =
-      answer_acted_kept draw n x c kind (engine_came kind c.table.moment x.session) here (engine_kept kind c.table.moment x.session (peer_same x.session)) is
+      answer_acted_kept draw n x c kind (engine_came kind c.table.moment x.session) here (engine_call kind c.table.moment x.session) is
 
   answer_at_kept : (draw : Draw) (conn : Conn) (kind : Kind) (c : Course) (n : Option ℕ) → P c → P (answer_at draw conn kind c n)
   answer_at_kept draw conn kind c None is = reported_kept closed (notes.UnknownConn conn) c is

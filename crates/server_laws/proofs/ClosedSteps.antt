@@ -38,7 +38,7 @@ use Rattle.server_table.specs.Step.{device_came, device_passed, halted, line_cam
 use Rattle.server_table.specs.Time.{client_ticked, clients_ticked, count_line_if, count_lines, counts_are_due, is_counted, ping_is_due, pinged, pinged_if, tick, tick_for, ticking_for, told_counts}
 use Rattle.server_laws.specs.HandedOn.{carrying}
 use Rattle.server_laws.proofs.Places.{get_last}
-use Rattle.server_laws.proofs.Peers.{control_kept, data_kept, peer_same, tick_kept}
+use Rattle.server_laws.proofs.CallsKeep.{call_same, control_call, data_call, tick_call}
 use Rattle.server_laws.proofs.Closed.{DealsWith, IsClosed, SealsOf, acted_kept, altered, here_from, reported_kept, turned_kept}
 use Rattle.server_laws.proofs.Verdicts.{owned_to_client, owned_to_device}
 
@@ -48,11 +48,11 @@ line_if_quiet : (n : ℕ) (x : Client) (lines : List Action) (b : Bool) → carr
 line_if_quiet n x lines true quiet = quiet
 line_if_quiet n x lines false quiet = quiet
 
-lines_quiet : (n : ℕ) (clients : List Client) → carrying (count_lines n clients) ≡ []
+pub lines_quiet : (n : ℕ) (clients : List Client) → carrying (count_lines n clients) ≡ []
 lines_quiet n [] = refl
 lines_quiet n (x ∷ clients) = line_if_quiet n x (count_lines (suc n) clients) (is_counted x) (lines_quiet (suc n) clients)
 
-last_here : (from : Addr) (c : Course) (peer : Peer) →
+pub last_here : (from : Addr) (c : Course) (peer : Peer) →
     client_here (with_admitted (client_begun c.table from peer) c).table (length c.table.clients) ≡ Some (client_begun c.table from peer)
 last_here from c peer =
     here_from (with_admitted (client_begun c.table from peer) c).table (length c.table.clients) (client_begun c.table from peer)
@@ -66,9 +66,9 @@ module _ {P : Course → Type 0} (closed : IsClosed P) where
   -- ---- a control packet
 
   fresh_kept : (n now : ℕ) (c : Course) → P c → P (client_changed n (with_fresh now) c)
-  fresh_kept n now c is = closed.alters n (with_fresh now) c (λ y there. record { here = refl; peer_id = refl; established = refl; session = peer_same y.session; file = λ ccd e. e }) is
+  fresh_kept n now c is = closed.alters n (with_fresh now) c (λ y there. record { here = refl; peer_id = refl; established = refl; session = call_same y.session; file = λ ccd e. e }) is
 
-  answered_kept : (n : ℕ) (x : Client) (i : Incoming) (c : Course) (answer : Result Turn Refused) → P c → P (control_answered n x i c answer)
+  pub answered_kept : (n : ℕ) (x : Client) (i : Incoming) (c : Course) (answer : Result Turn Refused) → P c → P (control_answered n x i c answer)
   answered_kept n x i c (Ok turn) is =
       let d : Course = record c { table = went_to n (Some (control_session i x.session)) c.table } in
       turned_kept closed n turn (client_changed n (with_fresh c.table.moment) d) (fresh_kept n c.table.moment d (went_kept n (Some (control_session i x.session)) c is))
@@ -81,7 +81,7 @@ module _ {P : Course → Type 0} (closed : IsClosed P) where
   control_for_kept r n c (Some x) here is =
       let i = incoming r c x in
       let o = control_came x.session i in
-      answered_kept n x i (acted n x.address o c) o.answer (acted_kept closed n x o c here (control_kept x.session i (peer_same x.session)) is)
+      answered_kept n x i (acted n x.address o c) o.answer (acted_kept closed n x o c here (control_call x.session i) is)
 
   to_client_kept : (r : ControlPacket) (n : ℕ) (c : Course) → P c → P (to_client r n c)
   unfolding to_client
@@ -93,7 +93,7 @@ module _ {P : Course → Type 0} (closed : IsClosed P) where
       let x = client_begun c.table d.from o.peer in
       let e = with_admitted x c in
       to_client_kept r (length c.table.clients) (acted (length c.table.clients) d.from o e)
-      (closed.acts (length c.table.clients) x o e (last_here d.from c o.peer) (peer_same o.peer) (closed.admits d.from draw c is))
+      (closed.acts (length c.table.clients) x o e (last_here d.from c o.peer) (call_same o.peer) (closed.admits d.from draw c is))
 
   wrapped_kept : (d : FromWire) (draw : Draw) (r : ControlPacket) (c : Course) (b : Bool) → P c →
       P (if b then (let e : Course = record c { effects = c.effects ++ Report (notes.Replayed r.packet.time r.packet.id) ∷ [] } in e) else admitted d draw r c)
@@ -166,7 +166,7 @@ module _ {P : Course → Type 0} (closed : IsClosed P) where
         let o = ticked (ticking_for c.table x) x.session in
         let d = turned n o.answer (acted n x.address o c) in
         pinged_kept n d (client_here d.table n)
-        (turned_kept closed n o.answer (acted n x.address o c) (closed.acts n x o c here (tick_kept (ticking_for c.table x) x.session (peer_same x.session)) is))
+        (turned_kept closed n o.answer (acted n x.address o c) (closed.acts n x o c here (tick_call (ticking_for c.table x) x.session) is))
 
     client_ticked_kept : (n : ℕ) (c : Course) → P c → P (client_ticked n c)
     unfolding client_ticked
@@ -203,7 +203,7 @@ module _ {P : Course → Type 0} (closed : IsClosed P) where
         here = refl;
         peer_id = refl;
         established = refl;
-        session = data_kept d.bytes (record { 0 = c.table.moment }) x.session (peer_same x.session);
+        session = data_call d.bytes (record { 0 = c.table.moment }) x.session;
         file = λ ccd e. e;
       }) is)
 
@@ -212,7 +212,7 @@ module _ {P : Course → Type 0} (closed : IsClosed P) where
   moved_if_kept n from c true is =
       let f : Client → Client = λ x. record x { address = from } in
       reported_kept closed (notes.Moved (cid n) from) (client_changed n f c)
-      (closed.alters n f c (λ y there. record { here = refl; peer_id = refl; established = refl; session = peer_same y.session; file = λ ccd e. e }) is)
+      (closed.alters n f c (λ y there. record { here = refl; peer_id = refl; established = refl; session = call_same y.session; file = λ ccd e. e }) is)
 
   pub moved_kept : (n : ℕ) (from : Addr) (x : Client) (c : Course) → P c → P (moved n from x c)
   moved_kept n from x c is = moved_if_kept n from c (not (is_address x.address from) && not (is_taken c.table n from x.session.remote)) is

@@ -245,7 +245,7 @@ sealed_answers p inner s =
 -- ---- it goes to a client
 
 -- sealed, or the last packet id was used
-data GoesTo (n : ℕ) (inner : List ℕ) (c d : Course) : Type 0 where
+pub data GoesTo (n : ℕ) (inner : List ℕ) (c d : Course) : Type 0 where
   Sent : (action : Action) → IsSealedTo c.table d.table n inner action → d.effects ≡ c.effects ++ action ∷ [] → d.staged ≡ c.staged → d.table.queue ≡ c.table.queue → GoesTo n inner c d
   Spent : IsKeySpent d.table n → d.effects ≡ c.effects ++ Report (notes.KeySpent (cid n)) ∷ [] → d.staged ≡ c.staged → d.table.queue ≡ c.table.queue → GoesTo n inner c d
 
@@ -292,7 +292,7 @@ goes_here n inner c (Some y) here some is =
     subst (λ (o : Outcome (Result (List ℕ) sending.Spent)). GoesTo n inner c (sealed_with n y c o)) (sym (sealed_answers y.session inner s))
     (goes_by n inner c y s (packets.ids_are_spent s.session) here k.0 k.1 refl)
 
-goes_to : (n : ℕ) (inner : List ℕ) (c : Course) → Good c → IsEstablishedAt c.table.clients n → GoesTo n inner c (sealed_to n inner c)
+pub goes_to : (n : ℕ) (inner : List ℕ) (c : Course) → Good c → IsEstablishedAt c.table.clients n → GoesTo n inner c (sealed_to n inner c)
 unfolding sealed_to
 goes_to n inner c good e =
     let here : client_here c.table n ≡ Some e.client = here_from c.table n e.client e.there e.here in

@@ -20,14 +20,14 @@ use Rattle.server_table.specs.DataDatagrams.{FromWire, ping}
 use Rattle.server_table.specs.InnerPackets.{sealed_as, with_sent}
 use Rattle.server_table.specs.Step.{came, datagram_as}
 use Rattle.server_laws.specs.HandedOn.{IsQuiet}
-use Rattle.server_laws.proofs.Peers.{PeerKept, peer_same, sealed_kept}
+use Rattle.server_laws.proofs.CallsKeep.{CallKept, sealed_call}
 use Rattle.server_laws.proofs.Closed.{DealsWith, IsClosed, SealsOf, altered, reported_kept}
 use Rattle.server_laws.proofs.ClosedEngine.{down_kept, engine_answered_kept, file_came_kept}
 use Rattle.server_laws.proofs.ClosedSteps.{arrived_kept, data_course_kept, device_came_kept, device_ready_kept, halted_kept, line_kept, tick_course_kept}
 
 module _ {P : Course → Type 0} (closed : IsClosed P) where
   -- a client to which a packet was sealed, before the datagram is sent
-  pub sent_kept : (n : ℕ) (x : Client) (peer : Peer) (datagram : List ℕ) (c : Course) → client_here c.table n ≡ Some x → PeerKept x.session peer → P c →
+  pub sent_kept : (n : ℕ) (x : Client) (peer : Peer) (datagram : List ℕ) (c : Course) → client_here c.table n ≡ Some x → CallKept x.session peer → P c →
       P (record c { table = record (with_client n (with_sent c.table.moment peer (length datagram)) c.table) { bytes_out = counted c.table.bytes_out (length datagram) } })
   sent_kept n x peer datagram c here kept is =
       let f : Client → Client = with_sent c.table.moment peer (length datagram) in
@@ -35,7 +35,7 @@ module _ {P : Course → Type 0} (closed : IsClosed P) where
       (altered closed n x f c here (record { here = refl; peer_id = refl; established = refl; session = kept; file = λ ccd e. e }) is)
 
   sealed_as_kept : ((to : Addr) (bytes : List ℕ) (c : Course) → P c → P (did (Wire to bytes) c)) → (n : ℕ) (x : Client) (peer : Peer) (r : Result (List ℕ) Spent) (c : Course) →
-      client_here c.table n ≡ Some x → PeerKept x.session peer → P c → P (sealed_as n x c peer r)
+      client_here c.table n ≡ Some x → CallKept x.session peer → P c → P (sealed_as n x c peer r)
   sealed_as_kept wires n x peer (Ok datagram) c here kept is = wires x.address datagram _ (sent_kept n x peer datagram c here kept is)
   sealed_as_kept wires n x peer (Err spent) c here kept is = reported_kept closed (notes.KeySpent (cid n)) c is
 
@@ -43,7 +43,7 @@ module _ {P : Course → Type 0} (closed : IsClosed P) where
   pub seals_all : ((to : Addr) (bytes : List ℕ) (c : Course) → P c → P (did (Wire to bytes) c)) → (inner : List ℕ) → SealsOf P inner
   seals_all wires inner = record {
     seals = λ n x c here is.
-        sealed_as_kept wires n x (packets.sealed_to inner x.session).peer (packets.sealed_to inner x.session).answer c here (sealed_kept inner x.session (peer_same x.session)) is;
+        sealed_as_kept wires n x (packets.sealed_to inner x.session).peer (packets.sealed_to inner x.session).answer c here (sealed_call inner x.session) is;
   }
 
   -- a control packet, or a datagram that is no packet

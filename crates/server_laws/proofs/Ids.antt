@@ -12,7 +12,9 @@ use Rattle.server_table.specs.ControlDatagrams.{client_begun, session_begun}
 use Rattle.server_table.specs.Endings.{gone}
 use Rattle.server_table.specs.Establishing.{with_address}
 use Rattle.server_laws.proofs.Places.{get_appended, some_same, went_changed}
-use Rattle.server_laws.proofs.Peers.{AreKept, KeysFrom, from_same, from_then, all_closed_kept, kept_same, kept_then, peer_same}
+use Rattle.server_laws.specs.Wraps.{WrapsStay}
+use Rattle.server_laws.proofs.Peers.{AreKept, KeysFrom, from_same, from_then, kept_same, kept_then}
+use Rattle.server_laws.proofs.CallsKeep.{close_call}
 use Rattle.server_laws.proofs.Closed.{DealsWith, IsClosed, at_place, here_at}
 use Rattle.server_laws.proofs.Everything.{seals_all}
 
@@ -22,15 +24,16 @@ pub record IsKeptClient (later : List Client) (n : ℕ) (x : Client) : Type 0 wh
   pub there : slice_get later n ≡ Some client
   pub kept : AreKept x.session.sessions client.session.sessions
   pub stay : KeysFrom client.session.sessions x.session.sessions
+  pub wraps : WrapsStay x.session client.session
   pub established : is_some x.established ≡ true → is_some client.established ≡ true
 
 abbrev pub AllKept : List Client → List Client → Type 0
 AllKept clients later = (n : ℕ) (x : Client) → slice_get clients n ≡ Some x → IsKeptClient later n x
 
 pub all_same : (clients : List Client) → AllKept clients clients
-all_same clients n x there = record { client = x; there = there; kept = kept_same x.session.sessions; stay = from_same x.session.sessions; established = λ e. e }
+all_same clients n x there = record { client = x; there = there; kept = kept_same x.session.sessions; stay = from_same x.session.sessions; wraps = λ time id e. e; established = λ e. e }
 
-changed_ids : (n : ℕ) (f : Client → Client) (clients later : List Client) → ((y : Client) → slice_get later n ≡ Some y → AreKept y.session.sessions (f y).session.sessions × KeysFrom (f y).session.sessions y.session.sessions × (is_some y.established ≡ true → is_some (f y).established ≡ true)) →
+changed_ids : (n : ℕ) (f : Client → Client) (clients later : List Client) → ((y : Client) → slice_get later n ≡ Some y → AreKept y.session.sessions (f y).session.sessions × KeysFrom (f y).session.sessions y.session.sessions × WrapsStay y.session (f y).session × (is_some y.established ≡ true → is_some (f y).established ≡ true)) →
     AllKept clients later → AllKept clients (changed_at n f later)
 changed_ids n f clients later keeps kept i x there = let w = kept i x there in go w (went_changed n i f later w.client w.there)
   where
@@ -43,13 +46,14 @@ changed_ids n f clients later keeps kept i x there = let w = kept i x there in g
           there = e.1;
           kept = kept_then x.session.sessions w.client.session.sessions (f w.client).session.sessions w.kept (keeps w.client at).0;
           stay = from_then (f w.client).session.sessions w.client.session.sessions x.session.sessions (keeps w.client at).1 w.stay;
-          established = λ e. (keeps w.client at).2 (w.established e);
+          wraps = λ time id e. (keeps w.client at).2 time id (w.wraps time id e);
+          established = λ e. (keeps w.client at).3 (w.established e);
         }
-    go w (inr e) = record { client = w.client; there = e; kept = w.kept; stay = w.stay; established = w.established }
+    go w (inr e) = record { client = w.client; there = e; kept = w.kept; stay = w.stay; wraps = w.wraps; established = w.established }
 
 appended_ids : (clients later : List Client) (x : Client) → AllKept clients later → AllKept clients (later ++ x ∷ [])
 appended_ids clients later x kept i y there =
-    let w = kept i y there in record { client = w.client; there = get_appended later x i w.client w.there; kept = w.kept; stay = w.stay; established = w.established }
+    let w = kept i y there in record { client = w.client; there = get_appended later x i w.client w.there; kept = w.kept; stay = w.stay; wraps = w.wraps; established = w.established }
 
 pub all_then : (clients between later : List Client) → AllKept clients between → AllKept between later → AllKept clients later
 all_then clients between later first second n x there =
@@ -60,6 +64,7 @@ all_then clients between later first second n x there =
       there = b.there;
       kept = kept_then x.session.sessions a.client.session.sessions b.client.session.sessions a.kept b.kept;
       stay = from_then b.client.session.sessions a.client.session.sessions x.session.sessions b.stay a.stay;
+      wraps = λ time id e. b.wraps time id (a.wraps time id e);
       established = λ e. b.established (a.established e);
     }
 
@@ -73,14 +78,14 @@ since_closed clients = record {
   other = λ went counted into outof stopped c is. is;
   acts = λ n x o c here peer is.
       changed_ids n (λ y. record y { session = o.peer }) clients c.table.clients
-      (at_place (λ y. AreKept y.session.sessions o.peer.sessions × KeysFrom o.peer.sessions y.session.sessions × (is_some y.established ≡ true → is_some y.established ≡ true)) c.table.clients n x (here_at c.table n x here).there (peer.ids, peer.stay, λ e. e)) is;
+      (at_place (λ y. AreKept y.session.sessions o.peer.sessions × KeysFrom o.peer.sessions y.session.sessions × WrapsStay y.session o.peer × (is_some y.established ≡ true → is_some y.established ≡ true)) c.table.clients n x (here_at c.table n x here).there (peer.kept.ids, peer.kept.stay, peer.wraps, λ e. e)) is;
   exchanges = λ n x ccd o c here known ex is.
       changed_ids n (λ y. record y { session = o.peer }) clients c.table.clients
-      (at_place (λ y. AreKept y.session.sessions o.peer.sessions × KeysFrom o.peer.sessions y.session.sessions × (is_some y.established ≡ true → is_some y.established ≡ true)) c.table.clients n x (here_at c.table n x here).there (ex.ids, ex.stay, λ e. e)) is;
-  alters = λ n f c keeps is. changed_ids n f clients c.table.clients (λ y there. ((keeps y there).session.ids, (keeps y there).session.stay, λ e. ap (λ (o : Option Established). is_some o) (keeps y there).established ∙ e)) is;
-  ends = λ n cause x c here is. changed_ids n gone clients c.table.clients (λ y there. let p = all_closed_kept y.session (peer_same y.session) in (p.ids, p.stay, λ e. e)) is;
+      (at_place (λ y. AreKept y.session.sessions o.peer.sessions × KeysFrom o.peer.sessions y.session.sessions × WrapsStay y.session o.peer × (is_some y.established ≡ true → is_some y.established ≡ true)) c.table.clients n x (here_at c.table n x here).there (ex.kept.ids, ex.kept.stay, ex.wraps, λ e. e)) is;
+  alters = λ n f c keeps is. changed_ids n f clients c.table.clients (λ y there. ((keeps y there).session.kept.ids, (keeps y there).session.kept.stay, (keeps y there).session.wraps, λ e. ap (λ (o : Option Established). is_some o) (keeps y there).established ∙ e)) is;
+  ends = λ n cause x c here is. changed_ids n gone clients c.table.clients (λ y there. let p = close_call y.session in (p.kept.ids, p.kept.stay, p.wraps, λ e. e)) is;
   establishes = λ n conn x l c here ready is.
-      changed_ids n (with_address l.0 c.table.moment) clients c.table.clients (λ y there. (kept_same y.session.sessions, from_same y.session.sessions, λ e. refl)) is;
+      changed_ids n (with_address l.0 c.table.moment) clients c.table.clients (λ y there. (kept_same y.session.sessions, from_same y.session.sessions, λ time id e. e, λ e. refl)) is;
   admits = λ from draw c is. appended_ids clients c.table.clients (client_begun c.table from (session_begun c.table draw).peer) is;
 }
 

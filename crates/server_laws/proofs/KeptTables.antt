@@ -134,7 +134,7 @@ changed_good {m = m} {cs = cs} {r = r} n f keeps is = record {
 altered_good : {g : Settings} {m : ℕ} {cs : List Client} {r : routes.Table} {q : List (List ℕ)} (n : ℕ) (f : Client → Client) →
     ((y : Client) → slice_get cs n ≡ Some y → ClientKept y (f y)) → WellKeptParts g m cs r q → WellKeptParts g m (changed_at n f cs) r q
 altered_good n f keeps is =
-    changed_good n f (λ y there kept. let k = keeps y there in (client_stays n y (f y) k kept, client_kept y (f y) k.peer_id k.established k.session k.file kept)) is
+    changed_good n f (λ y there kept. let k = keeps y there in (client_stays n y (f y) k kept, client_kept y (f y) k.peer_id k.established k.session.kept k.file kept)) is
 
 exchanged_client : {g : Settings} (x : Client) (ccd : Ccd) (p : Peer) → x.file ≡ Known ccd → PeerExchanged x.peer_id x.session p → IsClientKept g x →
     IsClientKept g (record x { session = p })
@@ -174,7 +174,7 @@ good_closed = record {
   exchanges = λ n x ccd o c here known ex is.
       changed_good n (λ y. record y { session = o.peer })
       (at_place (λ y. IsClientKept c.table.settings y → StaysAt n y (record y { session = o.peer }) × IsClientKept c.table.settings (record y { session = o.peer })) c.table.clients n x (here_at c.table n x here).there
-      (λ kept. (record { here = refl; established = refl; rows = refl }, exchanged_client x ccd o.peer known ex kept))) is;
+      (λ kept. (record { here = refl; established = refl; rows = refl }, exchanged_client x ccd o.peer known ex.kept kept))) is;
   alters = λ n f c keeps is. altered_good n f keeps is;
   ends = λ n cause x c here is. record {
     moment = is.moment;

@@ -16,3 +16,7 @@ pub mod Queue
 pub mod Runs
 pub mod Sealings
 pub mod Order
+pub mod Pings
+pub mod WrapsOnce
+pub mod CallsKeep
+pub mod WrapRuns

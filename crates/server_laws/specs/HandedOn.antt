@@ -178,3 +178,13 @@ pub record IsSealedPing (action : Action) : Type 0 where
   pub number : ℕ
   pub id : ℕ
   pub is_packet : action ≡ Wire to (sealed_under roles.Server keys (kid_of number) id ping)
+
+-- The same, and it goes to a client that is here as the step leaves the table, at its address.
+pub record IsPingToOneHere (later : Table) (action : Action) : Type 0 where
+  pub n : ℕ
+  pub client : Client
+  pub client_here : client_here later n ≡ Some client
+  pub keys : Keys
+  pub number : ℕ
+  pub id : ℕ
+  pub is_packet : action ≡ Wire client.address (sealed_under roles.Server keys (kid_of number) id ping)

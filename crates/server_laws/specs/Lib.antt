@@ -3,3 +3,4 @@ pub mod HandedOn
 pub mod Waiting
 pub mod WellKept
 pub mod Sealings
+pub mod Wraps

@@ -28,7 +28,7 @@ ghost use Rattle.server_table.specs.Runs.{Entry, MayLack, MayRun, after, after_a
 ghost use Rattle.server_table.specs.Sealed.{OnlySealedOpen, SealedPacket};
 ghost use Rattle.server_table.specs.Step.{is_over, step};
 ghost use Rattle.server_laws.specs.Accepted.{Accepts};
-ghost use Rattle.server_laws.specs.HandedOn.{BringsOne, IsDealtWith, IsForward, IsQuiet, IsSealedPing, IsSentOn, carrying, verdict_on};
+ghost use Rattle.server_laws.specs.HandedOn.{BringsOne, IsDealtWith, IsForward, IsPingToOneHere, IsQuiet, IsSealedPing, IsSentOn, carrying, verdict_on};
 ghost use Rattle.server_laws.specs.Sealings.{HasKeysAt, IsSealedRising, IsSealing, Sealing};
 ghost use Rattle.server_laws.specs.Waiting.{all_appended, all_given};
 ghost use Rattle.server_laws.specs.WellKept.{FollowRows, IsWellKept};
@@ -114,13 +114,17 @@ pub fn packets_of_the_device_go_to_owners()
 {}
 
 /// No other event hands a packet on. An answer of the engine, a file, a line or the end leaves the queue, and no
-/// effect carries a packet; when time passes, the queue stays, and only pings are sealed.
+/// effect carries a packet; when time passes, the queue stays, and only pings are sealed, each to a client that
+/// is here then, at its address.
 pub fn other_events_hand_nothing_on()
     ensures quiet { (lacks : Bool) (t : Table) (event : Event) → IsQuiet event.kind →
         ((step lacks t event).table.queue ≡ t.queue) × (carrying (step lacks t event).effects ≡ []) }
     ensures ticks { (settings : Settings) (key : List ℕ) (before : List Entry) (lacks : Bool) (event : Event) → event.kind ≡ Tick →
         ((step lacks (after_all (table_begun settings key) before) event).table.queue ≡ (after_all (table_begun settings key) before).queue)
         × AllByRecursion IsSealedPing (carrying (step lacks (after_all (table_begun settings key) before) event).effects) }
+    ensures here { (settings : Settings) (key : List ℕ) (before : List Entry) (lacks : Bool) (event : Event) → event.kind ≡ Tick →
+        AllByRecursion (IsPingToOneHere (step lacks (after_all (table_begun settings key) before) event).table)
+        (carrying (step lacks (after_all (table_begun settings key) before) event).effects) }
 {}
 
 /// What a datagram opens to under keys is what its client sealed into it: under AES in Galois/Counter Mode with

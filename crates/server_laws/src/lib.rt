@@ -3,9 +3,11 @@
 #![tactic(auto)]
 
 mod inner_packets;
+mod wraps;
 
 pub use inner_packets::{
     ids_are_accepted_once, ids_are_sealed_once, no_packet_is_lost, other_events_hand_nothing_on,
     packets_go_where_they_should, packets_of_the_device_go_to_owners, packets_wait_in_order,
     packets_were_sealed, tables_are_well_kept, what_opens_is_its_packet,
 };
+pub use wraps::{no_wrap_is_accepted_twice, wraps_are_accepted_once};

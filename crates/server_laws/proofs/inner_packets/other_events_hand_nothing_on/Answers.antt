@@ -1,6 +1,7 @@
 use Rattle.server_laws.proofs.inner_packets.other_events_hand_nothing_on.Goals as goal
 use Rattle.server_table.specs.Runs.{after_all}
 use Rattle.server_table.specs.Table.{table_begun}
+use Rattle.server_laws.proofs.Pings.{pings_here}
 use Rattle.server_laws.proofs.Queue.{quiet_step, tick_step}
 use Rattle.server_laws.proofs.Runs.{begun_kept, run_kept}
 
@@ -11,3 +12,8 @@ pub returns-clause-ticks : goal.returns-clause-ticks
 returns-clause-ticks c = λ settings key before lacks event is.
     let t = table_begun settings key in
     tick_step (after_all t before) event (run_kept before t (begun_kept settings key)) lacks is
+
+pub returns-clause-here : goal.returns-clause-here
+returns-clause-here c = λ settings key before lacks event is.
+    let t = table_begun settings key in
+    pings_here (after_all t before) event (run_kept before t (begun_kept settings key)) lacks is
