@@ -22,6 +22,7 @@ use Rattle.server_table.specs.Table.{Client, Established, Table}
 use Rattle.server_state.specs.declared.client.ClientState.{ClientState}
 use Rattle.server_state.specs.declared.state.ServerCore.{ServerCore}
 use Rattle.server_state.specs.Core.{CoreStands, FileStands, GoesOn, IsOfClient, IsSound, StateStands, with_held}
+use Rattle.server_state.specs.Endings.{IsSoundBut}
 use Rattle.server_state.specs.Places.{IsThere}
 use Rattle.server_state.specs.Standing.{StandFrom}
 
@@ -227,3 +228,12 @@ pub within_still : {V : Type 0} (es named : List (Entry V)) (m i : ℕ) (name : 
 within_still es named m i name first place within =
     let key : Entry _ → Entry _ = table.with_key (table.with_name name) in
     subst (λ k. i < k) (sym (ap length (first ∙ ap (λ o. table.changed_where o key es) place) ∙ as_long key i es)) within
+
+-- a core of which every session goes on is one of which all but one do
+pub sound_but : {S : Type 0} (goes_on : S → Type 0) (count : S → ℕ) (n : ℕ) (core : ServerCore S) → IsSound goes_on count core → IsSoundBut goes_on count n core
+sound_but goes_on count n core h = record {
+  sessions = λ i e at apart. all_at (GoesOn goes_on count (core.events + 1)) (entries_of core.clients) i e h.sessions at;
+  most = h.most;
+  admitted = h.admitted;
+  connections = h.connections;
+}

@@ -1,9 +1,11 @@
 -- What is made ahead for a client that may be established in a step.
-use Rattle.std.specs.Prelude.{◌≡◌, ℕ, ◌+◌, length, option_map, Option, Some, None}
+use Rattle.std.specs.Prelude.{◌≡◌, ℕ, ◌+◌, List, option_map, Option, Some, None}
 use Rattle.vpn_base.specs.declared.address.Ip4.{Ip4}
 use Rattle.ccd_files.specs.declared.client_file.Ccd.{Ccd}
 use Rattle.ovpn_config.specs.declared.settings.Settings.{Settings}
-use Rattle.server_table.specs.Establishing.{Leased, address_by, ccd_in}
+use Rattle.server_table.specs.Courses.{Course}
+use Rattle.server_table.specs.Establishing.{Leased, address_by, ccd_in, replaced_unless}
+use Rattle.server_table.specs.Lookups.{client_here}
 use Rattle.server_table.specs.Table.{Client, Table}
 use Rattle.server_texts.specs.Replies.{AreRepliesTo, reply_bytes, reply_effects}
 use Rattle.server_texts.specs.Told.{lines_bytes, lines_effects}
@@ -39,3 +41,20 @@ lease_effects file l = reply_effects l.replies + lines_effects file
 -- how many bytes
 abbrev pub lease_bytes : Ccd → LeaseAhead → ℕ
 lease_bytes file l = reply_bytes l.replies + lines_bytes file
+
+-- how many effects an outbox takes at most of establishing a client: with no address left it ends
+abbrev pub effects_with : Ccd → Option LeaseAhead → ℕ
+effects_with file None = 5
+effects_with file (Some l) = lease_effects file l
+
+-- how many bytes
+abbrev pub bytes_with : Ccd → Option LeaseAhead → ℕ
+bytes_with file None = 39
+bytes_with file (Some l) = lease_bytes file l
+
+-- What was made ahead is for a client of this number, with this name and this file, at this point of a step, before it has replaced anybody.
+pub record IsMadeFor (c : Course) (n : ℕ) (name : List ℕ) (file : Ccd) (ahead : Ahead) : Type 0 where
+  pub name_is : ahead.name ≡ name
+  pub file_is : ahead.file ≡ file
+  pub lease : option_map lease_of ahead.lease ≡ address_by (replaced_unless n name c c.table.settings.duplicate).table file.address
+  pub replies : (x : Client) → client_here c.table n ≡ Some x → RepliesStand c.table.settings file x.peer_id ahead.lease

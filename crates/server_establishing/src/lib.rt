@@ -3,6 +3,10 @@
 
 mod ahead;
 mod placing;
+mod replacing;
+mod taking;
 
 pub use ahead::{Ahead, LeaseAhead};
+pub use placing::establish_now;
+pub use replacing::replace;
 

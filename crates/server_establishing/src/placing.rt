@@ -1,29 +1,27 @@
 //! A client gets its address in the tunnel.
 
-ghost use Rattle.std.specs.Prelude.{◌≡◌, ◌+◌, ◌<◌, ◌≤◌, ◌++◌, ◌∷◌, [], ◌^◌, length, List, Option, Some, None, slice_get, option_map, OnOk, IsOk};
+ghost use Rattle.std.specs.Prelude.{◌≡◌, ◌==◌, ◌+◌, ◌<◌, ◌≤◌, ◌∷◌, length, List, Some, None, false, slice_get, option_map};
 ghost use Rattle.vpn_links.specs.Actions.{Action};
 ghost use Rattle.client_table.specs.Changes.{place_of};
 ghost use Rattle.client_table.specs.Tables.{entries_of};
-ghost use Rattle.peer_table.specs.Exchange.{cipher_of};
 ghost use Rattle.peer_table.specs.Outboxes.{HasRoom, Uses};
-ghost use Rattle.peer_table.specs.Peer.{Peer};
 ghost use Rattle.route_table.specs.Learned.{rows_of, table_of, with_rows};
 ghost use Rattle.server_table.specs.Courses.{Course, with_client};
-ghost use Rattle.server_table.specs.Establishing.{ccd_in, client_cipher, established_at, host_route, with_address};
+ghost use Rattle.server_table.specs.Establishing.{ccd_in, client_cipher, established_at, established_now, host_route, with_address};
 ghost use Rattle.server_table.specs.Lookups.{cid, client_here};
 ghost use Rattle.server_table.specs.Table.{Client, Table};
 ghost use Rattle.server_texts.specs.Replies.{AreRepliesTo};
 ghost use Rattle.server_state.specs.declared.client.ClientState.{ClientState};
 ghost use Rattle.server_state.specs.Core.{CoreStands, CourseStands, IsSound};
-ghost use Rattle.server_establishing.specs.Ahead.{lease_bytes, lease_effects, lease_of};
+ghost use Rattle.server_establishing.specs.Ahead.{IsAheadOf, bytes_with, effects_with, held_for, lease_bytes, lease_effects, lease_of};
 
-use crate::ahead::LeaseAhead;
+use crate::ahead::{Ahead, LeaseAhead};
 use ccd_files::Ccd;
 use peer_table::ClientSession;
 use route_table::RouteTable;
 use server_state::{ClientState, ServerCore};
 use server_texts::say_establishing;
-use vpn_base::{Cid, Cipher, Conn, Ip4, Moment, Prefix, Text};
+use vpn_base::{Cause, Cid, Cipher, Conn, Ip4, Moment, Prefix, Text};
 use vpn_links::Outbox;
 
 // The network of one address.
@@ -124,4 +122,32 @@ fn establish_at<S: ClientSession + Drop>(
     add_rows(&mut core.routes, cid, lease.address, file);
     lease.replies.write(conn, cipher, out);
     say_establishing(cid, file, lease.address, out);
+}
+
+/// Establishes a client, which is here and has nobody to replace any more, with what was made ahead for it: it
+/// gets its address, its rows and the reply, and a manager is told. With no address left it ends. It takes no
+/// memory.
+pub fn establish_now<S: ClientSession + Drop>(
+    core: &mut ServerCore<S>,
+    cid: Cid,
+    conn: Conn,
+    ahead: Ahead,
+    out: &mut Outbox,
+)
+    requires held { core.old.held ≡ held_for ahead.lease }
+    requires rows { 1 + length ahead.file.iroutes ≤ core.old.routes.spare_rows }
+    requires room { HasRoom out.old (effects_with ahead.file ahead.lease) (bytes_with ahead.file ahead.lease) }
+    requires turn { (cid.0 == core.old.turn.0 ≡ false) → core.old.mark ≡ 0 }
+    ensures established { (before : List Action) (c : Course) (x : Client) → CourseStands S.stands before core.old out.old c →
+        client_here c.table cid.0 ≡ Some x → IsAheadOf c.table x ahead → CourseStands S.stands before core.new out.new (established_now cid.0 conn c) }
+    ensures sound { IsSound S.goes_on S.count core.old → IsSound S.goes_on S.count core.new }
+    ensures uses { Uses out.old out.new (effects_with ahead.file ahead.lease) (bytes_with ahead.file ahead.lease) }
+    ensures turn_stays { core.new.turn ≡ core.old.turn }
+    ensures mark_stays { core.new.mark ≡ core.old.mark }
+{
+    let Ahead { name, file, lease } = ahead;
+    match lease {
+        None => core.end(cid, Cause::PoolEmpty, out),
+        Some(lease) => establish_at(core, cid, conn, name, &file, &lease, out),
+    }
 }
