@@ -1,2 +1,4 @@
 pub mod Placed
 pub mod Established
+pub mod GivenUp
+pub mod Held

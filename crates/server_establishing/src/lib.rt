@@ -3,10 +3,13 @@
 
 mod ahead;
 mod placing;
+mod preparing;
 mod replacing;
+mod room;
 mod taking;
 
 pub use ahead::{Ahead, LeaseAhead};
 pub use placing::establish_now;
+pub use preparing::{give_up, prepare};
 pub use replacing::replace;
 
