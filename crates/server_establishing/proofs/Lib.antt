@@ -2,3 +2,4 @@ pub mod Placed
 pub mod Established
 pub mod GivenUp
 pub mod Held
+pub mod Again

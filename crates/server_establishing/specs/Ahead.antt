@@ -4,10 +4,10 @@ use Rattle.vpn_base.specs.declared.address.Ip4.{Ip4}
 use Rattle.ccd_files.specs.declared.client_file.Ccd.{Ccd}
 use Rattle.ovpn_config.specs.declared.settings.Settings.{Settings}
 use Rattle.server_table.specs.Courses.{Course}
-use Rattle.server_table.specs.Establishing.{Leased, address_by, ccd_in, replaced_unless}
+use Rattle.server_table.specs.Establishing.{Leased, address_by, ccd_in, leased_to, replaced_unless}
 use Rattle.server_table.specs.Lookups.{client_here}
-use Rattle.server_table.specs.Table.{Client, Table}
-use Rattle.server_texts.specs.Replies.{AreRepliesTo, reply_bytes, reply_effects}
+use Rattle.server_table.specs.Table.{Client, Established, Table}
+use Rattle.server_texts.specs.Replies.{AreRepliesTo, Replies, reply_bytes, reply_effects}
 use Rattle.server_texts.specs.Told.{lines_bytes, lines_effects}
 use Rattle.server_establishing.specs.declared.ahead.Ahead.{Ahead}
 use Rattle.server_establishing.specs.declared.ahead.LeaseAhead.{LeaseAhead}
@@ -58,3 +58,8 @@ pub record IsMadeFor (c : Course) (n : ℕ) (name : List ℕ) (file : Ccd) (ahea
   pub file_is : ahead.file ≡ file
   pub lease : option_map lease_of ahead.lease ≡ address_by (replaced_unless n name c c.table.settings.duplicate).table file.address
   pub replies : (x : Client) → client_here c.table n ≡ Some x → RepliesStand c.table.settings file x.peer_id ahead.lease
+
+-- what is written again to an established client is the reply that it got
+abbrev pub StandsAgain : Table → Client → Established → Option Replies → Type 0
+StandsAgain t x e None = ⊥
+StandsAgain t x e (Some r) = AreRepliesTo t.settings (ccd_in x.file) x.peer_id (leased_to t.settings (ccd_in x.file).address e) r

@@ -5,6 +5,7 @@ mod ahead;
 mod placing;
 mod preparing;
 mod replacing;
+mod replying;
 mod room;
 mod taking;
 
@@ -12,4 +13,5 @@ pub use ahead::{Ahead, LeaseAhead};
 pub use placing::establish_now;
 pub use preparing::{give_up, prepare};
 pub use replacing::replace;
+pub use replying::{prepare_again, reply_again};
 

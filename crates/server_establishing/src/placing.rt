@@ -45,7 +45,7 @@ fn add_rows(routes: &mut RouteTable, cid: Cid, address: Ip4, file: &Ccd)
 }
 
 // The cipher of a client's keys.
-fn cipher_at<S: ClientSession>(core: &ServerCore<S>, i: usize) -> Cipher
+pub(crate) fn cipher_at<S: ClientSession>(core: &ServerCore<S>, i: usize) -> Cipher
     requires { i < length (entries_of core.now.clients) }
     ensures { (v : ClientState S) (x : Client) → option_map (λ e. e.value) (slice_get (entries_of core.now.clients) i) ≡ Some v →
         S.stands v.session x.session → client_cipher x ≡ result }

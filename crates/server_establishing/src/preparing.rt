@@ -43,7 +43,7 @@ fn reserve_rows(routes: &mut RouteTable, file: &Ccd) -> Result<(), NoMemory>
 }
 
 // The peer id of a client that is here.
-fn peer_id_of<S: ClientSession>(core: &ServerCore<S>, cid: Cid) -> u32
+pub(crate) fn peer_id_of<S: ClientSession>(core: &ServerCore<S>, cid: Cid) -> u32
     ensures { (t : Table) (x : Client) → CoreStands S.stands core.now t → client_here t cid.0 ≡ Some x → result ≡ x.peer_id }
 {
     server_state::places_tell_of_clients::<S>();

@@ -100,7 +100,7 @@ fn take_own(pool: &mut Pool, own: Ip4) -> Result<(), NoMemory>
 }
 
 // How many bits the server's network shares.
-fn network_len(settings: &Settings) -> u8
+pub(crate) fn network_len(settings: &Settings) -> u8
     ensures { result ≡ (network settings.now).len }
 {
     match settings.net {
