@@ -1,0 +1,5 @@
+pub mod Placed
+pub mod Established
+pub mod GivenUp
+pub mod Held
+pub mod Again

@@ -1,0 +1,1 @@
+use Rattle.server_establishing.proofs.placing.host_prefix.Goals as goal

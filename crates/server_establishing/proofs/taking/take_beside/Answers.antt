@@ -1,0 +1,5 @@
+use Rattle.std.proofs.Common.{[], refl}
+use Rattle.server_establishing.proofs.taking.take_beside.Goals as goal
+
+pub returns-in-Ok-clause-takes : goal.returns-in-Ok-clause-takes
+returns-in-Ok-clause-takes c t h = c.in-Ok.ensures.taken t [] t.taken h refl

@@ -1,0 +1,17 @@
+//! A client is established: it gets its address and its networks, and is told what the server pushes.
+#![tactic(auto)]
+
+mod ahead;
+mod placing;
+mod preparing;
+mod replacing;
+mod replying;
+mod room;
+mod taking;
+
+pub use ahead::{Ahead, LeaseAhead};
+pub use placing::establish_now;
+pub use preparing::{give_up, prepare};
+pub use replacing::replace;
+pub use replying::{prepare_again, reply_again};
+
