@@ -188,14 +188,15 @@ module _ {S : Type 0} (means : S → Peer → Type 0) (core : ServerCore S) (m i
   pub placed_sound : (goes_on : S → Type 0) (count since : S → ℕ) (ct : ClientTable (ClientState S)) → IsSound goes_on count since core
       → option_map (λ e. e.value) (slice_get (entries_of core.clients) i) ≡ Some v → entries_of ct ≡ table.changed_at i change (entries_of core.clients)
       → admitted_by ct ≡ admitted_by core.clients → most_of ct ≡ most_of core.clients → IsSound goes_on count since (record core { clients = ct; held = None })
-  placed_sound goes_on count ct h value is admitted most = record {
-    sessions = subst (AllByRecursion (GoesOn goes_on count since (core.events + 1))) (sym is)
+  placed_sound goes_on count since ct h value is admitted most = record {
+    sessions = subst (AllByRecursion (GoesOn goes_on count since (core.events + 1) core.moment.0)) (sym is)
         (all_changed (GoesOn goes_on count since (core.events + 1) core.moment.0) change (entries_of core.clients) i h.sessions
         (λ e at goes.
           let value_is : e.value ≡ v = ap (λ o. unwrap_or o v) (sym (ap (λ o. option_map (λ e. e.value) o) at) ∙ value) in
           record {
             session = subst (λ (v : ClientState S). goes_on v.session) value_is goes.session;
             few = subst (λ (v : ClientState S). count v.session ≤ core.events + 1) value_is goes.few;
+            past = subst (λ (v : ClientState S). since v.session ≤ core.moment.0) value_is goes.past;
           }));
     most = subst (λ k. k ≤ 4096) (sym most) h.most;
     admitted = subst (λ k. k ≤ core.events) (sym admitted) h.admitted;
@@ -231,7 +232,7 @@ within_still es named m i name first place within =
 
 -- a core of which every session goes on is one of which all but one do
 pub sound_but : {S : Type 0} (goes_on : S → Type 0) (count since : S → ℕ) (n : ℕ) (core : ServerCore S) → IsSound goes_on count since core → IsSoundBut goes_on count since n core
-sound_but goes_on count n core h = record {
+sound_but goes_on count since n core h = record {
   sessions = λ i e at apart. all_at (GoesOn goes_on count since (core.events + 1) core.moment.0) (entries_of core.clients) i e h.sessions at;
   most = h.most;
   admitted = h.admitted;
