@@ -1,0 +1,9 @@
+//! Control packets of clients: how they are taken, and how clients are admitted.
+#![tactic(auto)]
+
+mod control_session;
+mod taking;
+mod telling;
+
+pub use control_session::ControlSession;
+
