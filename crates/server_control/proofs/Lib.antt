@@ -1,0 +1,3 @@
+mod Came
+mod Sound
+mod Taken

@@ -6,4 +6,5 @@ mod taking;
 mod telling;
 
 pub use control_session::ControlSession;
+pub use taking::to_client;
 

@@ -1,6 +1,6 @@
 //! How clients take control packets.
 
-ghost use Rattle.std.specs.Prelude.{◌≡◌, ◌<◌, ◌≤◌, ◌+◌, ◌-◌, ◌^◌, ◌∷◌, List, length, min, slice_get, option_map, is_some, Some, IfOk, OnOk, OnErr, MatchResult};
+ghost use Rattle.std.specs.Prelude.{◌≡◌, ◌<◌, ◌≤◌, ◌+◌, ◌-◌, ◌^◌, ◌∷◌, List, drop, length, min, slice_get, option_map, is_some, Some, IfOk, OnOk, OnErr, MatchResult};
 ghost use Rattle.vpn_links.specs.Actions.{Action};
 ghost use Rattle.client_table.specs.Changes.{place_of};
 ghost use Rattle.client_table.specs.Tables.{entries_of};
@@ -11,6 +11,7 @@ ghost use Rattle.server_table.specs.ControlDatagrams as server;
 ghost use Rattle.server_table.specs.Courses.{Course};
 ghost use Rattle.server_table.specs.Lookups.{client_here};
 ghost use Rattle.server_table.specs.Table.{Client};
+ghost use Rattle.server_state.specs.Calls.{opens_in};
 ghost use Rattle.server_state.specs.Core.{CourseStands, IsSound};
 ghost use Rattle.server_control.specs.Packets.{HasBytes, IsSoundAhead, packet_of};
 ghost use Rattle.server_control.specs.internal.Taking.{HasTaken, IsSoundAfter, heard_after, last_after};
@@ -119,4 +120,96 @@ fn one_at_most(count: u64) -> u64
     ensures { result ≡ min count 1 }
 {
     if count > 1 { 1 } else { count }
+}
+
+// How many engine connections were opened behind so many effects, at most one.
+fn opened_since(out: &Outbox, done: usize) -> u64
+    ensures counted { done ≤ length out.now.effects → result ≡ min (opens_in (drop done out.now.effects)) 1 }
+    ensures one { result ≤ 1 }
+{
+    if done > out.count() {
+        return 0;
+    }
+    one_at_most(count_opened(out, done))
+}
+
+// The client whose turn it is, at this place and this address, takes the packet; what comes of it is not told yet.
+fn take_at<S: ControlSession>(
+    core: &mut ServerCore<S>,
+    i: usize,
+    to: Addr,
+    kind: &Kind,
+    opened: &Opened<'_>,
+    view: &ControlView<'_>,
+    out: &mut Outbox,
+) -> Result<Result<Turn, Refused>, NoMemory>
+    requires acks { view.now.acks.count ≤ 8 }
+    requires wire { HasBytes kind.now (length view.now.payload.now) }
+    requires counted { 1 ≤ core.old.events }
+    requires few { core.old.events ≤ 2 ^ 48 }
+    requires sound { IsSoundAhead S.goes_on S.count core.old }
+    requires place { place_of core.old.turn.0 (entries_of core.old.clients) ≡ Some i }
+    requires within { i < length (entries_of core.old.clients) }
+    requires address { option_map (λ e. e.key.address) (slice_get (entries_of core.old.clients) i) ≡ Some to }
+    ensures taken { IfOk result (λ answer. (before : List Action) (c : Course) (x : Client) → CourseStands S.stands before core.old out.old c →
+        client_here c.table core.old.turn.0 ≡ Some x →
+        HasTaken S.stands before core.new out.new core.old.turn.0 (packet_of opened.now view.now) c x answer) }
+    ensures kept { OnErr result ((before : List Action) (c : Course) → CourseStands S.stands before core.old out.old c →
+        CourseStands S.stands before core.new out.new c) }
+    ensures sound { MatchResult result (λ answer. IsSoundAfter S.goes_on S.count core.new answer) (λ _. IsSoundAhead S.goes_on S.count core.new) }
+    ensures turn { core.new.turn ≡ core.old.turn }
+    ensures room { OnOk result (HasRoom out.new 5 39) }
+{
+    client_table::lending_sets_the_value::<ClientState<S>>();
+    server_state::places_tell_of_clients::<S>();
+    server_state::calls_are_put_into_courses::<S>();
+    let now = core.moment;
+    let next_conn = Conn(core.connections);
+    let cid = core.turn;
+    let done = out.count();
+    let session = &core.clients.look_at(i).session;
+    let number = session.control_session(opened.first % 8, now);
+    match take(core.clients.value_at(i), to, kind, opened, view, next_conn, now, out) {
+        Err(NoMemory) => Err(NoMemory),
+        Ok(answer) => {
+            core.connections += opened_since(out, done);
+            core.last_taken = last_after(answer, (cid, number), core.last_taken);
+            Ok(answer)
+        }
+    }
+}
+
+/// The client whose turn it is takes a control packet, if it is here: its session answers, what it refuses is
+/// reported, and it ends where its turn is over. The kind is that of the event, whose datagram the packet was
+/// unwrapped from. After want of memory nothing has changed.
+pub fn to_client<S: ControlSession + Drop>(
+    core: &mut ServerCore<S>,
+    kind: &Kind,
+    opened: &Opened<'_>,
+    view: &ControlView<'_>,
+    out: &mut Outbox,
+) -> Result<(), NoMemory>
+    requires acks { view.now.acks.count ≤ 8 }
+    requires wire { HasBytes kind.now (length view.now.payload.now) }
+    requires counted { 1 ≤ core.old.events }
+    requires few { core.old.events ≤ 2 ^ 48 }
+    requires sound { IsSoundAhead S.goes_on S.count core.old }
+    ensures taken { OnOk result ((before : List Action) (c : Course) → CourseStands S.stands before core.old out.old c →
+        CourseStands S.stands before core.new out.new (server.to_client (packet_of opened.now view.now) core.old.turn.0 c)) }
+    ensures kept { OnErr result ((before : List Action) (c : Course) → CourseStands S.stands before core.old out.old c →
+        CourseStands S.stands before core.new out.new c) }
+    ensures sound { MatchResult result (λ _. IsSound S.goes_on S.count core.new) (λ _. IsSoundAhead S.goes_on S.count core.new) }
+{
+    server_state::places_tell_of_clients::<S>();
+    let Some(i) = core.clients.place(core.turn) else {
+        return Ok(());
+    };
+    let to = core.clients.key_at(i).address;
+    match take_at(core, i, to, kind, opened, view, out) {
+        Err(NoMemory) => Err(NoMemory),
+        Ok(answer) => {
+            tell(core, answer, out);
+            Ok(())
+        }
+    }
 }
