@@ -325,3 +325,12 @@ pub nobody_takes : {S : Type 0} (means : S → Peer → Type 0) (before : List A
     → client_here c.table n ≡ None → CourseStands means before core out c → CourseStands means before core out (server.to_client r n c)
 unfolding server.to_client
 nobody_takes means before core out n r c none h = subst (λ y. CourseStands means before core out (server.control_for r n c y)) (sym none) h
+
+pub told_in_all : {S : Type 0} (means : S → Peer → Type 0) (before : List Action) (mid core : ServerCore S) (between out : Contents) (n m : ℕ) (r : server.ControlPacket) (c : Course)
+    (x : Client) (answer : Result Turn Refused) → client_here c.table n ≡ Some x → HasTaken means before mid between n r c x answer → m ≡ n
+    → ((before : List Action) (c : Course) → CourseStands means before mid between c → CourseStands means before core out (told m c answer))
+    → CourseStands means before core out (server.to_client r n c)
+told_in_all means before mid core between out n m r c x answer at took is tells =
+    let c1 : Course = went n (server.control_session (server.incoming r c x) x.session) (acted n x.address (control_came x.session (server.incoming r c x)) c) answer in
+    taken_in_all means before core out n r c x answer at took.answered
+    (subst (λ (m : ℕ). CourseStands means before core out (told m c1 answer)) is (tells before c1 took.course))

@@ -1,10 +1,8 @@
-use Rattle.std.proofs.Common.{subst, sym, ◌∙◌}
-use Rattle.client_table.specs.Tables.{entries_of}
-use Rattle.server_state.specs.Core.{CourseStands}
+use Rattle.std.proofs.Common.{ap, sym, ◌∙◌}
+use Rattle.vpn_base.specs.declared.names.Cid.{Cid}
 use Rattle.server_control.specs.Packets.{packet_of}
-use Rattle.server_control.specs.internal.Taking.{told, went}
 use Rattle.server_control.proofs.Sound.{sound_counted}
-use Rattle.server_control.proofs.Taken.{nobody_takes, taken_in_all}
+use Rattle.server_control.proofs.Taken.{nobody_takes, told_in_all}
 use Rattle.server_control.proofs.taking.to_client.Goals as goal
 
 pub returns-in_default-clause-taken : goal.returns-in_default-clause-taken
@@ -23,7 +21,5 @@ returns-in-Ok-clause-taken g c before course h =
     let n = core.turn.0 in
     let r = packet_of c.args.opened.now c.args.view.now in
     let there = c.places_tell_of_clients.ensures.there core course.table n c.in-Some.i h.table (sym c.place.ensures.place ∙ c.in-Some.is) in
-    let took = c.in-Ok.ensures.taken before course there.client h there.client_there in
-    let so = c.tell.ensures.told before _ took.course in
-    taken_in_all means before c.tell.new.core c.tell.new.out n r course there.client c.in-Ok.answer there.client_there took.answered
-    (subst (λ cid. CourseStands means before c.tell.new.core c.tell.new.out (told cid.0 _ c.in-Ok.answer)) c.take_at.ensures.turn so)
+    told_in_all means before c.take_at.new.core c.tell.new.core c.take_at.new.out c.tell.new.out n c.take_at.new.core.turn.0 r course there.client c.in-Ok.answer there.client_there
+    (c.in-Ok.ensures.taken before course there.client h there.client_there) (ap (λ (cid : Cid). cid.0) c.take_at.ensures.turn) c.tell.ensures.told
