@@ -103,7 +103,7 @@ pub(crate) fn take<S: ClientSession>(
 }
 
 // The client and the key session to which the last datagram went.
-fn last_after(
+pub(crate) fn last_after(
     answer: Result<Turn, Refused>,
     went: (Cid, u64),
     last: Option<(Cid, u64)>,
