@@ -63,3 +63,9 @@ by_freshness p i Late = record { remote = λ sid is. is; name = refl; opens = om
 pub keeps : (p : Peer) (i : Incoming) → Keeps 1 p (control_came p i)
 unfolding control_came
 keeps p i = by_freshness p i (long_freshness p.envelope.accepted i.packet.time i.packet.id i.moment)
+
+-- a session that takes it opens no connection
+pub taken_quiet : (p : Peer) (i : Incoming) (n : ℕ) (s : Session) → opened_by (taken_by p i n (Some s)).doings ≡ 0
+taken_quiet p i n s =
+    let o = link.received s.link p.envelope i.form (sender i) i.moment.0 in
+    puts_open o.link.conn (texts_here 12 o.link)

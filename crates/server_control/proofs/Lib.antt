@@ -1,3 +1,6 @@
 mod Came
 mod Sound
 mod Taken
+mod Free
+mod First
+mod Placed

@@ -94,3 +94,100 @@ fn begin<S: ControlSession + Drop>(
         }
     }
 }
+
+// A client is admitted and takes the packet, and it is its turn; what comes of it is not told yet.
+fn admit_first<S: ControlSession + Drop>(
+    core: &mut ServerCore<S>,
+    alloc: Global,
+    from: Addr,
+    draw: &Draw,
+    kind: &Kind,
+    opened: &Opened<'_>,
+    view: &ControlView<'_>,
+    out: &mut Outbox,
+) -> Result<Result<Turn, Refused>, NoMemory>
+    requires acks { view.now.acks.count ≤ 8 }
+    requires wire { HasBytes kind.now (length view.now.payload.now) }
+    requires window { 1 ≤ core.old.settings.timers.win }
+    requires some_timeout { 1 ≤ core.old.settings.timers.timeout }
+    requires short_timeout { core.old.settings.timers.timeout ≤ 60 }
+    requires counted { 1 ≤ core.old.events }
+    requires few { core.old.events ≤ 2 ^ 48 }
+    requires sound { IsSoundAhead S.goes_on S.count core.old }
+    requires wrapped { (opened.now.id == 0) ≡ false }
+    requires first { (opened.now.first % 8 == 0) ≡ true }
+    requires fits { length (entries_of core.old.clients) < most_of core.old.clients }
+    requires alone { out.old.staged ≡ [] }
+    requires mark { core.old.mark ≡ 0 }
+    ensures admitted { IfOk result (λ answer. (before : List Action) (c : Course) → CourseStands S.stands before core.old out.old c →
+        HasTaken S.stands before core.new out.new (length c.table.clients) (packet_of opened.now view.now)
+        (server.opened_for from c (server.session_begun c.table draw.now)) (server.client_begun c.table from (server.session_begun c.table draw.now).peer) answer) }
+    ensures kept { OnErr result ((before : List Action) (c : Course) → CourseStands S.stands before core.old out.old c →
+        CourseStands S.stands before core.new out.new c) }
+    ensures sound { MatchResult result (λ answer. IsSoundAfter S.goes_on S.count core.new answer) (λ _. IsSoundAhead S.goes_on S.count core.new) }
+    ensures turn { OnOk result (core.new.turn.0 ≡ admitted_by core.old.clients) }
+    ensures room { OnOk result (HasRoom out.new 5 39) }
+{
+    let now = core.moment;
+    let conn = Conn(core.connections);
+    let next_conn = Conn(core.connections + 1);
+    let timers = core.settings.timers;
+    let own = own_sid(draw);
+    let Ok(()) = core.clients.reserve() else {
+        return Err(NoMemory);
+    };
+    let (client, number, answer) = match begin(
+        alloc, &core.key, timers, own, conn, next_conn, now, from, kind, opened, view, out,
+    ) {
+        Ok(begun) => begun,
+        Err(NoMemory) => return Err(NoMemory),
+    };
+    let Ok(cid) = core.clients.admit(from, opened.sid, client) else {
+        unreachable!();
+    };
+    core.turn = cid;
+    core.connections += 1;
+    core.last_taken = last_after(answer, (cid, number), core.last_taken);
+    Ok(answer)
+}
+
+/// Admits a client, which takes its first control packet: a client's reset with key id 0, whose wrap id is not
+/// 0. Its session begins on the next engine connection. After want of memory nothing has changed.
+pub fn admit<S: ControlSession + Drop>(
+    core: &mut ServerCore<S>,
+    alloc: Global,
+    from: Addr,
+    draw: &Draw,
+    kind: &Kind,
+    opened: &Opened<'_>,
+    view: &ControlView<'_>,
+    out: &mut Outbox,
+) -> Result<(), NoMemory>
+    requires acks { view.now.acks.count ≤ 8 }
+    requires wire { HasBytes kind.now (length view.now.payload.now) }
+    requires window { 1 ≤ core.old.settings.timers.win }
+    requires some_timeout { 1 ≤ core.old.settings.timers.timeout }
+    requires short_timeout { core.old.settings.timers.timeout ≤ 60 }
+    requires counted { 1 ≤ core.old.events }
+    requires few { core.old.events ≤ 2 ^ 48 }
+    requires sound { IsSoundAhead S.goes_on S.count core.old }
+    requires wrapped { (opened.now.id == 0) ≡ false }
+    requires first { (opened.now.first % 8 == 0) ≡ true }
+    requires fits { length (entries_of core.old.clients) < most_of core.old.clients }
+    requires alone { out.old.staged ≡ [] }
+    requires mark { core.old.mark ≡ 0 }
+    ensures admitted { OnOk result ((before : List Action) (c : Course) (bytes : List ℕ) (lacks : Bool) → CourseStands S.stands before core.old out.old c →
+        CourseStands S.stands before core.new out.new
+        (server.admitted (record { from = from; bytes = bytes; lacks = lacks }) draw.now (packet_of opened.now view.now) c)) }
+    ensures kept { OnErr result ((before : List Action) (c : Course) → CourseStands S.stands before core.old out.old c →
+        CourseStands S.stands before core.new out.new c) }
+    ensures sound { MatchResult result (λ _. IsSound S.goes_on S.count core.new) (λ _. IsSoundAhead S.goes_on S.count core.new) }
+{
+    match admit_first(core, alloc, from, draw, kind, opened, view, out) {
+        Err(NoMemory) => Err(NoMemory),
+        Ok(answer) => {
+            tell(core, answer, out);
+            Ok(())
+        }
+    }
+}

@@ -7,6 +7,7 @@ mod taking;
 mod telling;
 
 
+pub use admitting::admit;
 pub use control_session::ControlSession;
 pub use taking::to_client;
 
