@@ -54,3 +54,15 @@ module _ (wraps : Wrapping) (own : Sid) (timers : Timers) (conn : Conn) (now : �
 
   pub first_opens : opened_by (control_came p i).doings ≡ 0
   first_opens = ap (λ (o : Outcome (Result Turn Refused)). opened_by o.doings) came_first ∙ taken_quiet p i 0 s
+
+  pub began_opens : opened_by (began Server wraps own timers conn now).doings ≡ 1
+  unfolding began
+  began_opens = refl
+
+  pub began_remote : (control_came (began Server wraps own timers conn now).peer i).peer.remote ≡ Some (sender i)
+  unfolding began
+  began_remote = first_remote
+
+  pub first_quiet : opened_by (control_came (began Server wraps own timers conn now).peer i).doings ≡ 0
+  unfolding began
+  first_quiet = first_opens

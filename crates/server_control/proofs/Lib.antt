@@ -4,3 +4,4 @@ mod Taken
 mod Free
 mod First
 mod Placed
+mod Admitted

@@ -21,7 +21,7 @@ use Rattle.server_state.specs.Places.{IsChangedAt}
 use Rattle.server_control.specs.Packets.{IsSoundAhead}
 use Rattle.server_control.specs.internal.Taking.{IsSoundAfter}
 
-all_at : {X : Type 0} (P : X → Type 0) (xs : List X) (i : ℕ) (v : X) → AllByRecursion P xs → slice_get xs i ≡ Some v → P v
+pub all_at : {X : Type 0} (P : X → Type 0) (xs : List X) (i : ℕ) (v : X) → AllByRecursion P xs → slice_get xs i ≡ Some v → P v
 all_at P [] i v all there = absurd (false≢true (ap is_some there))
 all_at P (x ∷ xs) zero v all there = subst P (ap (λ (o : Option _). unwrap_or o x) there) all.0
 all_at P (x ∷ xs) (suc i) v all there = all_at P xs i v all.1 there

@@ -128,6 +128,7 @@ fn admit_first<S: ControlSession + Drop>(
     ensures turn { OnOk result (core.new.turn.0 ≡ admitted_by core.old.clients) }
     ensures room { OnOk result (HasRoom out.new 5 39) }
 {
+    client_table::peer_ids_are_the_least_free::<ClientState<S>>();
     let now = core.moment;
     let conn = Conn(core.connections);
     let next_conn = Conn(core.connections + 1);
