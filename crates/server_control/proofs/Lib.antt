@@ -5,3 +5,4 @@ mod Free
 mod First
 mod Placed
 mod Admitted
+mod Arrived

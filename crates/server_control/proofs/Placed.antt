@@ -93,7 +93,7 @@ last_place least end (k ∷ keys) [] e is num = ap (λ b. table.earlier b None) 
     same_number : (k : ℕ) → k ≡ end → (k == end) ≡ true
     same_number k same = grind (arith, common_steps)
 last_place least end (k ∷ keys) (v ∷ values) e is num =
-    let both = both_true _ _ is in
-    let high = rise_ends (k.number.0 + 1) end keys both.1 in
+    let both : (nat_le least k.number.0 ≡ true) × (rise_from (k.number.0 + 1) end keys ≡ true) = both_true _ _ is in
+    let high : k.number.0 + 1 ≤ end = rise_ends (k.number.0 + 1) end keys both.1 in
     ap (λ b. table.earlier b (table.place_of end (entries keys values ++ e ∷ []))) (is_apart k.number.0 end (k.number.0 == end) (omega (arith, high)) refl)
     ∙ ap (table.earlier false) (last_place (k.number.0 + 1) end keys values e both.1 num)

@@ -1,6 +1,6 @@
 //! Control packets that come from the wire.
 
-ghost use Rattle.std.specs.Prelude.{◌≡◌, ◌≤◌, ◌+◌, ◌-◌, ◌^◌, ◌==◌, ◌%◌, ◌∷◌, [], List, Bool, ℕ, length, slice_get, true, false, IsTrue, IfOk, OnOk, OnErr, MatchResult};
+ghost use Rattle.std.specs.Prelude.{◌≡◌, ◌≤◌, ◌+◌, ◌-◌, ◌^◌, ◌==◌, ◌%◌, ◌∷◌, [], List, Bool, ℕ, drop, length, slice_get, true, false, IsTrue, IfOk, OnOk, OnErr, MatchResult};
 ghost use Rattle.vpn_links.specs.Actions.{Action};
 ghost use Rattle.vpn_links.specs.declared.events.Kind.TheVariants.{Datagram};
 ghost use Rattle.opcode_codec.specs.ControlText.{control_of};
@@ -157,6 +157,23 @@ fn read_text<S: ControlSession + Drop>(
     }
 }
 
+fn first_of(datagram: &[u8]) -> Option<u8>
+    ensures { result ≡ server.first_of datagram.now }
+{
+    datagram.first().copied()
+}
+
+// The plain text of a datagram that was unwrapped where it lies.
+fn plain_of(datagram: &[u8]) -> &[u8]
+    ensures plain { result.now ≡ drop 49 datagram.now }
+    ensures short { length result.now ≤ length datagram.now }
+{
+    if datagram.len() < OVERHEAD {
+        return &[];
+    }
+    &datagram[OVERHEAD..]
+}
+
 // The datagram is unwrapped where it lies, or reported where no client has wrapped it.
 fn unwrap_datagram<S: ControlSession + Drop, W: Wrap>(
     core: &mut ServerCore<S>,
@@ -186,7 +203,7 @@ fn unwrap_datagram<S: ControlSession + Drop, W: Wrap>(
         CourseStands S.stands before core.new out.new c) }
     ensures sound { MatchResult result (λ _. IsSound S.goes_on S.count core.new) (λ _. IsSoundAhead S.goes_on S.count core.new) }
 {
-    let first = datagram.first().copied();
+    let first = first_of(datagram);
     match wrap.unwrap_in_place(datagram) {
         Err(_) => {
             core.report(Note::NotWrapped, out);
@@ -198,7 +215,7 @@ fn unwrap_datagram<S: ControlSession + Drop, W: Wrap>(
                 sid: header.sid,
                 id: header.id,
                 time: header.time,
-                plain: &datagram[OVERHEAD..],
+                plain: plain_of(datagram),
             };
             read_text(core, alloc, from, draw, op, kind, first, &opened, out)
         }
