@@ -1,13 +1,10 @@
 -- A client is admitted.
-use Rattle.std.proofs.Common.{◌≡◌, ℕ, zero, suc, ◌+◌, ◌-◌, ◌*◌, ◌^◌, ◌≤◌, ◌==◌, ◌%◌, Bool, true, false, List, [], ◌∷◌, ◌++◌, length, map, slice_get, option_map, Option, Some, None, Result, Ok, Err, refl, sym, ap, subst, ◌∙◌, arith}
-use Rattle.std.specs.Prelude.{filter_map}
+use Rattle.std.proofs.Common.{◌≡◌, ℕ, zero, suc, ◌+◌, ◌-◌, ◌*◌, ◌^◌, ◌≤◌, ◌==◌, ◌%◌, true, false, List, [], ◌∷◌, ◌++◌, length, map, slice_get, option_map, Option, Some, Result, Ok, Err, refl, sym, ap, subst, ◌∙◌, arith}
 use Rattle.std.specs.List.{AllByRecursion}
 use Rattle.std.proofs.lemmas.List.{append_assoc, map-append}
 use Rattle.vpn_base.specs.declared.address.Addr.{Addr}
 use Rattle.vpn_base.specs.declared.names.Cid.{Cid}
-use Rattle.vpn_base.specs.declared.names.Conn.{Conn}
 use Rattle.vpn_base.specs.declared.names.Draw.{Draw}
-use Rattle.vpn_base.specs.declared.names.Moment.{Moment}
 use Rattle.vpn_base.specs.declared.names.Role.TheVariants.{Server}
 use Rattle.vpn_base.specs.declared.names.Sid.{Sid}
 use Rattle.vpn_links.specs.Actions.{Action, Contents, Datagram, Holds}
@@ -35,7 +32,7 @@ use Rattle.peer_table.specs.Places.{changed_at}
 use Rattle.server_table.specs.ControlDatagrams as server
 use Rattle.server_table.specs.Courses.{Course, Staged, acted, opened_by, staged_to}
 use Rattle.server_table.specs.Establishing.{first_address, last_address}
-use Rattle.server_table.specs.Lookups.{address_in, client_here, free_peer_id, if_here}
+use Rattle.server_table.specs.Lookups.{client_here, free_peer_id, if_here}
 use Rattle.server_table.specs.Table.{Client, Table, Unasked}
 use Rattle.server_state.specs.declared.client.ClientState.{ClientState}
 use Rattle.server_state.specs.declared.state.ServerCore.{ServerCore}

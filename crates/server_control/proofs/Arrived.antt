@@ -16,7 +16,6 @@ use Rattle.peer_table.specs.Peer.{Peer}
 use Rattle.server_table.specs.ControlDatagrams as server
 use Rattle.server_table.specs.Courses.{Course, reported}
 use Rattle.server_table.specs.DataDatagrams.{FromWire}
-use Rattle.server_table.specs.Lookups.{is_full}
 use Rattle.server_state.specs.declared.state.ServerCore.{ServerCore}
 use Rattle.server_state.specs.Core.{CoreStands, CourseStands}
 use Rattle.server_control.specs.Packets.{HasBytes}

@@ -1,5 +1,5 @@
 -- What a control packet leaves of a client's session.
-use Rattle.std.proofs.Common.{◌≡◌, ℕ, suc, ◌≤◌, Bool, true, false, List, [], ◌∷◌, length, slice_get, Option, Some, None, Result, Ok, Err, refl, sym, ap, ◌∙◌, arith}
+use Rattle.std.proofs.Common.{◌≡◌, ℕ, suc, ◌≤◌, Bool, true, false, List, [], ◌∷◌, length, slice_get, Option, Some, None, Result, refl, ap, arith}
 use Rattle.std.specs.Option.{option_or}
 use Rattle.vpn_base.specs.declared.names.Conn.{Conn}
 use Rattle.vpn_base.specs.declared.names.Freshness.{Freshness}

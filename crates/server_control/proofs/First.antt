@@ -1,20 +1,19 @@
 -- The first control packet of a client.
-use Rattle.std.proofs.Common.{◌≡◌, ℕ, ◌+◌, ◌==◌, ◌%◌, Bool, true, false, cond, List, [], ◌∷◌, slice_get, Option, Some, None, Result, refl, sym, ap, subst, ◌∙◌, arith}
+use Rattle.std.proofs.Common.{◌≡◌, ℕ, ◌==◌, true, false, [], ◌∷◌, Some, None, Result, refl, ap, ◌∙◌, arith}
 use Rattle.std.proofs.lemmas.Grind.{common_steps}
 use Rattle.vpn_base.specs.declared.names.Conn.{Conn}
-use Rattle.vpn_base.specs.declared.names.Freshness.{Freshness}
-use Rattle.vpn_base.specs.declared.names.Freshness.TheVariants.{Fresh, Zero}
+use Rattle.vpn_base.specs.declared.names.Freshness.TheVariants.{Fresh}
 use Rattle.vpn_base.specs.declared.names.Moment.{Moment}
 use Rattle.vpn_base.specs.declared.names.Role.TheVariants.{Server}
 use Rattle.vpn_base.specs.declared.names.Sid.{Sid}
 use Rattle.vpn_base.specs.declared.names.Timers.{Timers}
-use Rattle.packet_ids.specs.LongFreshness.{LongAccepted, long_freshness}
+use Rattle.packet_ids.specs.LongFreshness.{long_freshness}
 use Rattle.tls_crypt.specs.Packets.{Wrapping}
 use Rattle.opcode_codec.specs.declared.opcodes.Opcode.TheVariants.{ServerReset}
 use Rattle.peer_table.specs.declared.outcomes.Refused.{Refused}
 use Rattle.peer_table.specs.declared.outcomes.Turn.{Turn}
 use Rattle.peer_table.specs.ControlPackets.{Incoming, control_came, judged, kid_in, placed, sender, taken_by}
-use Rattle.peer_table.specs.KeySessions.{Session, kid_of, live_with, newest, session_begun, usable, with_kid}
+use Rattle.peer_table.specs.KeySessions.{Session, live_with, session_begun}
 use Rattle.peer_table.specs.Peer.{Outcome, Peer, began, peer_begun}
 use Rattle.server_table.specs.Courses.{opened_by}
 use Rattle.server_control.proofs.Came.{taken_quiet}

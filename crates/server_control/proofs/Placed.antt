@@ -1,13 +1,12 @@
 -- One client more, behind all others.
-use Rattle.std.proofs.Common.{◌≡◌, ℕ, zero, suc, ◌+◌, ◌<◌, ◌≤◌, ◌==◌, Bool, true, false, List, [], ◌∷◌, ◌++◌, length, slice_get, map, Option, Some, None, refl, sym, ap, subst, ◌∙◌, arith}
-use Rattle.std.specs.Prelude.{◌&&◌, filter_map, nat_le, is_some}
+use Rattle.std.proofs.Common.{◌≡◌, ℕ, suc, ◌+◌, ◌<◌, ◌≤◌, ◌==◌, Bool, true, false, List, [], ◌∷◌, ◌++◌, length, slice_get, map, Some, None, refl, sym, ap, subst, ◌∙◌, arith}
+use Rattle.std.specs.Prelude.{◌&&◌, filter_map, nat_le}
 use Rattle.std.specs.List.{AllByRecursion, cons_option}
 use Rattle.std.proofs.lemmas.Bool.{false≢true}
 use Rattle.std.proofs.lemmas.Grind.{common_steps}
 use Rattle.client_table.specs.declared.key.Key.{Key}
 use Rattle.client_table.specs.Changes as table
 use Rattle.client_table.specs.Entries.{Entry, entries}
-use Rattle.client_table.specs.Finding.{has_number}
 use Rattle.client_table.specs.Sound.{rise_from}
 use Rattle.peer_table.specs.Places.{changed_at}
 use Rattle.server_table.specs.Lookups.{address_in}

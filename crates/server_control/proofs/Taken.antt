@@ -1,21 +1,18 @@
 -- A client's session has taken a control packet.
-use Rattle.std.proofs.Common.{◌≡◌, ℕ, zero, suc, ◌+◌, ◌≤◌, ◌%◌, Bool, true, false, List, [], ◌∷◌, ◌++◌, drop, length, min, map, slice_get, option_map, Option, Some, None, Result, Ok, Err, refl, sym, ap, subst, ◌∙◌, arith}
+use Rattle.std.proofs.Common.{◌≡◌, ℕ, zero, suc, ◌+◌, ◌≤◌, ◌%◌, Bool, List, [], ◌∷◌, ◌++◌, drop, length, min, slice_get, option_map, Option, Some, None, Result, Ok, Err, refl, sym, ap, subst, ◌∙◌, arith}
 use Rattle.std.specs.Prelude.{is_some, unwrap_or}
 use Rattle.vpn_base.specs.declared.address.Addr.{Addr}
 use Rattle.vpn_base.specs.declared.names.Cid.{Cid}
-use Rattle.vpn_base.specs.declared.names.Conn.{Conn}
 use Rattle.vpn_base.specs.declared.names.Moment.{Moment}
 use Rattle.vpn_base.specs.declared.names.Role.{Role}
-use Rattle.vpn_base.specs.declared.names.Sid.{Sid}
-use Rattle.vpn_links.specs.Actions.{Action, Contents, Datagram, Holds}
+use Rattle.vpn_links.specs.Actions.{Action, Contents, Holds}
 use Rattle.client_table.specs.declared.table.ClientTable.{ClientTable}
 use Rattle.client_table.specs.Changes as table
-use Rattle.client_table.specs.Entries.{Entry}
 use Rattle.client_table.specs.Tables.{entries_of}
 use Rattle.peer_table.specs.declared.outcomes.Refused.{Refused}
 use Rattle.peer_table.specs.declared.outcomes.Refused.TheVariants.{Replayed, BadKey}
 use Rattle.peer_table.specs.declared.outcomes.Turn.{Turn}
-use Rattle.peer_table.specs.ControlPackets.{Incoming, control_came, kid_in}
+use Rattle.peer_table.specs.ControlPackets.{Incoming, control_came}
 use Rattle.peer_table.specs.KeySessions.{live_with}
 use Rattle.peer_table.specs.Outboxes.{Leaves, actions_of}
 use Rattle.peer_table.specs.Outboxes as boxes
@@ -24,13 +21,13 @@ use Rattle.peer_table.specs.Places.{changed_at}
 use Rattle.opcode_codec.specs.declared.control.ControlView.{ControlView}
 use Rattle.tls_crypt.specs.declared.wrapping.Opened.{Opened}
 use Rattle.server_table.specs.ControlDatagrams as server
-use Rattle.server_table.specs.Courses.{Course, Staged, acted, opened_by, with_client}
+use Rattle.server_table.specs.Courses.{Course, acted, opened_by, with_client}
 use Rattle.server_table.specs.Lookups.{client_here}
 use Rattle.server_table.specs.Table.{Client, Established, Table}
 use Rattle.server_state.specs.declared.client.ClientState.{ClientState}
 use Rattle.server_state.specs.declared.state.ServerCore.{ServerCore}
 use Rattle.server_state.specs.Calls.{HasCalled, opens_in}
-use Rattle.server_state.specs.Core.{CoreStands, CourseStands, FileStands, IsOfClient, StateStands, established_at, name_once}
+use Rattle.server_state.specs.Core.{CoreStands, CourseStands, FileStands, StateStands, established_at, name_once}
 use Rattle.server_state.specs.Places.{IsChangedAt, IsThere}
 use Rattle.server_control.specs.Packets.{packet_of}
 use Rattle.server_control.specs.internal.Taking.{HasTaken, heard_after, last_after, told, went}
@@ -77,7 +74,7 @@ pub counted_is : (old : List Action) (new : List Action) (role : Role) (doings :
 counted_is old new role doings k is counted few =
     counted (subst (λ (l : List Action). length old ≤ length l) (sym is) (length_more old (actions_of role doings)))
     ∙ min_one (opens_in (drop (length old) new)) (opened_by doings)
-      (ap (λ (l : List Action). opens_in (drop (length old) l)) is ∙ ap opens_in (drop_front old (actions_of role doings)) ∙ opens_same role doings) few
+    (ap (λ (l : List Action). opens_in (drop (length old) l)) is ∙ ap opens_in (drop_front old (actions_of role doings)) ∙ opens_same role doings) few
 
 -- ---- the core
 
@@ -221,7 +218,7 @@ module _ {S : Type 0} (means : S → Peer → Type 0) (before : List Action) (co
     same =
         ap (λ (k : ℕ). boxes.incoming opened view (record { 0 = k }) (is_some v.established) core.moment) h.table.connections
         ∙ ap (λ (b : Bool). boxes.incoming opened view (record { 0 = c.table.connections }) b core.moment)
-          (established_is v.established established_at x.established state_was.established)
+        (established_is v.established established_at x.established state_was.established)
         ∙ ap (λ (k : ℕ). boxes.incoming opened view (record { 0 = c.table.connections }) (is_some x.established) (record { 0 = k })) h.table.moment
 
     address_is : to ≡ x.address
@@ -312,7 +309,7 @@ told_went n x i c (Err (Replayed time id)) = refl
 pub taken_in_all : {S : Type 0} (means : S → Peer → Type 0) (before : List Action) (core : ServerCore S) (out : Contents) (n : ℕ) (r : server.ControlPacket) (c : Course)
     (x : Client) (answer : Result Turn Refused) → client_here c.table n ≡ Some x → answer ≡ (control_came x.session (server.incoming r c x)).answer
     → CourseStands means before core out
-      (told n (went n (server.control_session (server.incoming r c x) x.session) (acted n x.address (control_came x.session (server.incoming r c x)) c) answer) answer)
+    (told n (went n (server.control_session (server.incoming r c x) x.session) (acted n x.address (control_came x.session (server.incoming r c x)) c) answer) answer)
     → CourseStands means before core out (server.to_client r n c)
 unfolding server.to_client
 taken_in_all means before core out n r c x answer at told_is h =

@@ -7,9 +7,7 @@ mod control_session;
 mod taking;
 mod telling;
 
-
 pub use admitting::admit;
 pub use arriving::control_arrived;
 pub use control_session::ControlSession;
 pub use taking::to_client;
-

@@ -88,7 +88,10 @@ pub(crate) fn take<S: ClientSession>(
         Ok(room) => room,
         Err(NoMemory) => return Err(NoMemory),
     };
-    match client.session.on_control(opened, view, to, next_conn, established, now, out) {
+    match client
+        .session
+        .on_control(opened, view, to, next_conn, established, now, out)
+    {
         Err(NoMemory) => Err(NoMemory),
         Ok(Ok(turn)) => {
             client.heard = now;
@@ -169,7 +172,16 @@ fn take_at<S: ControlSession>(
     let done = out.count();
     let session = &core.clients.look_at(i).session;
     let number = session.control_session(opened.first % 8, now);
-    match take(core.clients.value_at(i), to, kind, opened, view, next_conn, now, out) {
+    match take(
+        core.clients.value_at(i),
+        to,
+        kind,
+        opened,
+        view,
+        next_conn,
+        now,
+        out,
+    ) {
         Err(NoMemory) => Err(NoMemory),
         Ok(answer) => {
             core.connections += opened_since(out, done);

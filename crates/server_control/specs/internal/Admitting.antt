@@ -1,8 +1,8 @@
 -- A client that begins.
-use Rattle.std.specs.Prelude.{◌≡◌, ℕ, ◌++◌, ◌%◌, List, Option, None, Result, Ok}
+use Rattle.std.specs.Prelude.{◌≡◌, ℕ, ◌++◌, None, Result}
 use Rattle.vpn_base.specs.declared.address.Addr.{Addr}
 use Rattle.vpn_base.specs.declared.names.Moment.{Moment}
-use Rattle.vpn_links.specs.Actions.{Action, Contents, Holds}
+use Rattle.vpn_links.specs.Actions.{Contents, Holds}
 use Rattle.control_link.specs.Calls.{datagrams_to}
 use Rattle.peer_table.specs.declared.outcomes.Refused.{Refused}
 use Rattle.peer_table.specs.declared.outcomes.Turn.{Turn}
@@ -10,7 +10,6 @@ use Rattle.peer_table.specs.ControlPackets.{Incoming, control_came}
 use Rattle.peer_table.specs.Outboxes.{actions_of}
 use Rattle.peer_table.specs.Peer.{Outcome, Peer}
 use Rattle.server_table.specs.ControlDatagrams.{control_session}
-use Rattle.server_state.specs.declared.client.ClientFile.{ClientFile}
 use Rattle.server_state.specs.declared.client.ClientFile.TheVariants.{Unasked}
 use Rattle.server_state.specs.declared.client.ClientState.{ClientState}
 

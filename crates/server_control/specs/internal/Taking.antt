@@ -9,8 +9,8 @@ use Rattle.peer_table.specs.declared.outcomes.Refused.{Refused}
 use Rattle.peer_table.specs.declared.outcomes.Refused.TheVariants.{Replayed, BadKey}
 use Rattle.peer_table.specs.declared.outcomes.Turn.{Turn}
 use Rattle.peer_table.specs.declared.outcomes.Turn.TheVariants.{Over}
-use Rattle.peer_table.specs.ControlPackets.{Incoming, control_came}
-use Rattle.peer_table.specs.Peer.{Outcome, Peer}
+use Rattle.peer_table.specs.ControlPackets.{control_came}
+use Rattle.peer_table.specs.Peer.{Peer}
 use Rattle.server_table.specs.ControlDatagrams.{ControlPacket, control_session, incoming, with_fresh}
 use Rattle.server_table.specs.Courses.{Course, acted, client_changed, reported}
 use Rattle.server_table.specs.DataDatagrams.{went_to}

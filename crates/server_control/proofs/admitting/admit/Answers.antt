@@ -1,4 +1,4 @@
-use Rattle.std.proofs.Common.{length, sym, ◌∙◌}
+use Rattle.std.proofs.Common.{length, ◌∙◌}
 use Rattle.server_table.specs.ControlDatagrams as server
 use Rattle.server_control.specs.Packets.{packet_of}
 use Rattle.server_control.proofs.Admitted.{here_admitted}

@@ -1,4 +1,4 @@
-use Rattle.std.proofs.Common.{refl, sym, ap, subst, ◌∙◌}
+use Rattle.std.proofs.Common.{refl}
 use Rattle.client_table.specs.Entries.{newcomer}
 use Rattle.client_table.specs.PeerIds.{free_peer_id}
 use Rattle.client_table.specs.Tables.{admitted_by, entries_of}

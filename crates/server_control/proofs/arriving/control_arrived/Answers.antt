@@ -1,4 +1,4 @@
-use Rattle.std.proofs.Common.{ℕ, List, subst, sym, ap, ◌∙◌}
+use Rattle.std.proofs.Common.{ℕ, List, subst}
 use Rattle.vpn_base.specs.declared.names.Role.TheVariants.{Server}
 use Rattle.tls_crypt.specs.Packets.{Directions}
 use Rattle.tls_crypt.specs.Unwrapping.{unwrapping}

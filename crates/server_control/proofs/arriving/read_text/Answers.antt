@@ -1,4 +1,4 @@
-use Rattle.std.proofs.Common.{length, subst, sym, ap, ◌∙◌}
+use Rattle.std.proofs.Common.{length, subst}
 use Rattle.opcode_codec.specs.ControlText.{control_form}
 use Rattle.server_table.specs.ControlDatagrams as server
 use Rattle.server_state.specs.Core.{CourseStands}

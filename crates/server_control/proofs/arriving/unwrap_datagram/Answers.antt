@@ -1,4 +1,4 @@
-use Rattle.std.proofs.Common.{ℕ, List, subst, sym, ◌∙◌}
+use Rattle.std.proofs.Common.{ℕ, List, subst, sym}
 use Rattle.opcode_codec.specs.ControlText.{control_of}
 use Rattle.tls_crypt.specs.Unwrapping.{packet_of}
 use Rattle.server_table.specs.ControlDatagrams as server
