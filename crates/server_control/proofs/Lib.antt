@@ -1,0 +1,8 @@
+mod Came
+mod Sound
+mod Taken
+mod Free
+mod First
+mod Placed
+mod Admitted
+mod Arrived

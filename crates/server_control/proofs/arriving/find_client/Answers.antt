@@ -1,0 +1,16 @@
+use Rattle.std.proofs.Common.{Option, option_map, subst, sym, ap, ◌∙◌}
+use Rattle.vpn_base.specs.declared.names.Cid.{Cid}
+use Rattle.server_table.specs.ControlDatagrams as server
+use Rattle.server_state.specs.Core.{CourseStands}
+use Rattle.server_control.specs.Packets.{packet_of}
+use Rattle.server_control.proofs.Arrived.{on_ok}
+use Rattle.server_control.proofs.arriving.find_client.Goals as goal
+
+pub returns-in-None-clause-found : goal.returns-in-None-clause-found
+returns-in-None-clause-found g c =
+    on_ok c.of_nobody.result c.of_nobody.ensures.nobody
+    (λ nobody before course bytes lacks h.
+    subst (λ o. CourseStands g.S.ClientSession.stands before c.of_nobody.new.core c.of_nobody.new.out
+    (server.control_at (record { from = c.args.from; bytes = bytes; lacks = lacks }) c.args.draw.now c.args.op (packet_of c.args.opened.now c.args.view.now) course o))
+    (sym (ap (λ (o : Option Cid). option_map (λ cid. cid.0) o) c.in-None.is) ∙ c.by_session.ensures course.table h.table)
+    (nobody before course bytes lacks h))

@@ -1,0 +1,13 @@
+//! Control packets of clients: how they are taken, and how clients are admitted.
+#![tactic(auto)]
+
+mod admitting;
+mod arriving;
+mod control_session;
+mod taking;
+mod telling;
+
+pub use admitting::admit;
+pub use arriving::control_arrived;
+pub use control_session::ControlSession;
+pub use taking::to_client;
