@@ -1,0 +1,2 @@
+mod Ticked
+mod Pinged

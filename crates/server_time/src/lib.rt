@@ -1,0 +1,9 @@
+//! Time passes for a server.
+#![tactic(auto)]
+
+mod keepalive;
+mod pinging;
+mod session;
+mod turn;
+
+pub use pinging::ping;
