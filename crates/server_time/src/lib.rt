@@ -7,3 +7,4 @@ mod session;
 mod turn;
 
 pub use pinging::ping;
+pub use turn::client_ticked;
