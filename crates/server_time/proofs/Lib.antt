@@ -1,0 +1,5 @@
+mod Ticked
+mod Pinged
+mod Sound
+mod Acted
+mod Begun
