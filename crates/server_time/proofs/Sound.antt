@@ -54,9 +54,9 @@ unless_over A B (Over cause) h into = tt
 
 -- ---- the core
 
-module _ {S : Type 0} (goes_on : S → Type 0) (count : S → ℕ) (core : ServerCore S) (ct : ClientTable (ClientState S)) (i n : ℕ) (v w : ClientState S)
-    (h : IsSoundBeforeTurn goes_on count n core) (place : place_of n (entries_of core.clients) ≡ Some i)
-    (value : option_map (λ e. e.value) (slice_get (entries_of core.clients) i) ≡ Some v) (more : count w.session ≤ count v.session + 1)
+module _ {S : Type 0} (goes_on : S → Type 0) (count since : S → ℕ) (core : ServerCore S) (ct : ClientTable (ClientState S)) (i n : ℕ) (v w : ClientState S)
+    (h : IsSoundBeforeTurn goes_on count since n core) (place : place_of n (entries_of core.clients) ≡ Some i)
+    (value : option_map (λ e. e.value) (slice_get (entries_of core.clients) i) ≡ Some v) (more : count w.session ≤ count v.session + 1) (past : since w.session ≤ core.moment.0)
     (is : IsChangedAt core i (with_value w) ct) (k : ℕ) (few : k ≤ 1) where
   still_few : count w.session ≤ core.events + 1
   still_few = omega (arith, more, h.few i v place value)
@@ -65,27 +65,27 @@ module _ {S : Type 0} (goes_on : S → Type 0) (count : S → ℕ) (core : Serve
   connections = omega (arith, h.opens, few)
 
   -- where its session goes on
-  pub is_sound : goes_on w.session → IsSound goes_on count (record core { clients = ct; connections = core.connections + k })
+  pub is_sound : goes_on w.session → IsSound goes_on count since (record core { clients = ct; connections = core.connections + k })
   is_sound goes = record {
-    sessions = subst (AllByRecursion (GoesOn goes_on count (core.events + 1))) (sym is.entries_are)
-        (all_changed (GoesOn goes_on count (core.events + 1)) (with_value w) (entries_of core.clients) i h.sound.sessions
-        (λ e at. record { session = goes; few = still_few }));
+    sessions = subst (AllByRecursion (GoesOn goes_on count since (core.events + 1) core.moment.0)) (sym is.entries_are)
+        (all_changed (GoesOn goes_on count since (core.events + 1) core.moment.0) (with_value w) (entries_of core.clients) i h.sound.sessions
+        (λ e at. record { session = goes; few = still_few; past = past }));
     most = subst (λ m. m ≤ 4096) (sym is.most_is) h.sound.most;
     admitted = subst (λ m. m ≤ core.events) (sym is.admitted_is) h.sound.admitted;
     connections = connections;
   }
 
   other : (j : ℕ) (e : Entry (ClientState S)) → slice_get (entries_of ct) j ≡ Some e → (place_of n (entries_of ct) ≡ Some j → ⊥)
-      → GoesOn goes_on count (core.events + 1) e
+      → GoesOn goes_on count since (core.events + 1) core.moment.0 e
   other j e there apart =
       let still : place_of n (entries_of ct) ≡ Some i = ap (place_of n) is.entries_are ∙ place_same n w (entries_of core.clients) i ∙ place in
       let at : slice_get (entries_of core.clients) j ≡ Some e =
       sym (others_same (with_value w) (entries_of core.clients) i j (λ same. apart (still ∙ ap (λ (i : ℕ). Some i) same)))
       ∙ sym (ap (λ (es : List (Entry (ClientState S))). slice_get es j) is.entries_are) ∙ there in
-      all_at (GoesOn goes_on count (core.events + 1)) (entries_of core.clients) j e h.sound.sessions at
+      all_at (GoesOn goes_on count since (core.events + 1) core.moment.0) (entries_of core.clients) j e h.sound.sessions at
 
   -- where it may be over
-  pub is_sound_but : IsSoundBut goes_on count n (record core { clients = ct; connections = core.connections + k })
+  pub is_sound_but : IsSoundBut goes_on count since n (record core { clients = ct; connections = core.connections + k })
   is_sound_but = record {
     sessions = λ j e there apart. other j e there apart;
     most = subst (λ m. m ≤ 4096) (sym is.most_is) h.sound.most;
@@ -93,14 +93,16 @@ module _ {S : Type 0} (goes_on : S → Type 0) (count : S → ℕ) (core : Serve
     connections = connections;
   }
 
--- a session that is there goes on
-goes_as : {S : Type 0} (goes_on : S → Type 0) (count : S → ℕ) (most : ℕ) (es : List (Entry (ClientState S))) (i : ℕ) (o : Option (Entry (ClientState S))) (v : ClientState S)
-    → AllByRecursion (GoesOn goes_on count most) es → slice_get es i ≡ o → option_map (λ e. e.value) o ≡ Some v → goes_on v.session
-goes_as goes_on count most es i None v all there value = absurd (false≢true (ap is_some value))
-goes_as goes_on count most es i (Some e) v all there value =
-    subst (λ (v : ClientState _). goes_on v.session) (ap (λ o. unwrap_or o v) value) (all_at (GoesOn goes_on count most) es i e all there).session
+-- what holds of a session that is there
+goes_as : {S : Type 0} (goes_on : S → Type 0) (count since : S → ℕ) (most moment : ℕ) (es : List (Entry (ClientState S))) (i : ℕ) (o : Option (Entry (ClientState S))) (v : ClientState S)
+    → AllByRecursion (GoesOn goes_on count since most moment) es → slice_get es i ≡ o → option_map (λ e. e.value) o ≡ Some v
+    → goes_on v.session × (since v.session ≤ moment)
+goes_as goes_on count since most moment es i None v all there value = absurd (false≢true (ap is_some value))
+goes_as goes_on count since most moment es i (Some e) v all there value =
+    let h = all_at (GoesOn goes_on count since most moment) es i e all there in
+    subst (λ (v : ClientState _). goes_on v.session × (since v.session ≤ moment)) (ap (λ o. unwrap_or o v) value) (h.session, h.past)
 
-pub goes_there : {S : Type 0} (goes_on : S → Type 0) (count : S → ℕ) (core : ServerCore S) (i : ℕ) (v : ClientState S) → IsSound goes_on count core
-    → option_map (λ e. e.value) (slice_get (entries_of core.clients) i) ≡ Some v → goes_on v.session
-goes_there goes_on count core i v h value =
-    goes_as goes_on count (core.events + 1) (entries_of core.clients) i (slice_get (entries_of core.clients) i) v h.sessions refl value
+pub goes_there : {S : Type 0} (goes_on : S → Type 0) (count since : S → ℕ) (core : ServerCore S) (i : ℕ) (v : ClientState S) → IsSound goes_on count since core
+    → option_map (λ e. e.value) (slice_get (entries_of core.clients) i) ≡ Some v → goes_on v.session × (since v.session ≤ core.moment.0)
+goes_there goes_on count since core i v h value =
+    goes_as goes_on count since (core.events + 1) core.moment.0 (entries_of core.clients) i (slice_get (entries_of core.clients) i) v h.sessions refl value

@@ -41,8 +41,8 @@ pub record MayTakeTurn {S : Type 0} (is_ready : S → Kind → Bool → ℕ → 
   pub room : HasRoom out (effects + 7) (bytes + 1563)
 
 -- What holds of every core holds, and would with one key session of the client of this number more and with one connection more.
-pub record IsSoundBeforeTurn {S : Type 0} (goes_on : S → Type 0) (count : S → ℕ) (n : ℕ) (core : ServerCore S) : Type 0 where
-  pub sound : IsSound goes_on count core
+pub record IsSoundBeforeTurn {S : Type 0} (goes_on : S → Type 0) (count since : S → ℕ) (n : ℕ) (core : ServerCore S) : Type 0 where
+  pub sound : IsSound goes_on count since core
   pub few : (i : ℕ) (v : ClientState S) → place_of n (entries_of core.clients) ≡ Some i
       → option_map (λ e. e.value) (slice_get (entries_of core.clients) i) ≡ Some v → count v.session ≤ core.events
   pub opens : core.connections + 1 ≤ 2 ^ 13 * core.events

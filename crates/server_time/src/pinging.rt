@@ -47,10 +47,10 @@ fn is_due<S: ClientSession>(core: &ServerCore<S>, cid: Cid) -> bool
 /// Seals a ping to the client of this number, if it is here and one is due. It takes no memory.
 pub fn ping<S: ClientSession>(core: &mut ServerCore<S>, cid: Cid, out: &mut Outbox)
     requires room { HasRoom out.old 2 1524 }
-    requires sound { IsSound S.goes_on S.count core.old }
+    requires sound { IsSound S.goes_on S.count S.since core.old }
     ensures pinged { (before : List Action) (c : Course) → CourseStands S.stands before core.old out.old c →
         CourseStands S.stands before core.new out.new (then_pinged cid.0 c) }
-    ensures sound { IsSound S.goes_on S.count core.new }
+    ensures sound { IsSound S.goes_on S.count S.since core.new }
     ensures uses { Uses out.old out.new 2 1524 }
 {
     if is_due(core, cid) {

@@ -25,6 +25,7 @@ pub fn tick_client<S: ClientSession>(
 ) -> Turn
     requires few { S.count client.old.session < 2 ^ 64 - 1 }
     requires goes_on { S.goes_on client.old.session }
+    requires later { S.since client.old.session ≤ now.0 }
     requires ready { MayTick S.is_ready client.old out.old }
     ensures left { (x : Client) → StateStands S.stands client.old x →
         Leaves S.stands client.new.session out.old out.new to (ticked (ticking now.0 next_conn (is_some x.established) (is_idle keepalive now.0 x)) x.session) }
@@ -34,6 +35,7 @@ pub fn tick_client<S: ClientSession>(
     ensures goes_on { GoesOnUnlessOver (S.goes_on client.new.session) result }
     ensures uses { (effects bytes : ℕ) → IsReadyAs S.is_ready client.old effects bytes → Uses out.old out.new effects bytes }
     ensures count { S.count client.new.session ≤ S.count client.old.session + 1 }
+    ensures since { S.since client.new.session ≤ now.0 }
 {
     let idle = is_idle(keepalive, client.heard, now);
     match client.session.on_tick(next_conn, client.established.is_some(), idle, to, now, out) {

@@ -46,14 +46,14 @@ fn tick_at<S: ClientSession>(
     requires within { i < length (entries_of core.old.clients) }
     requires key { option_map (λ e. e.key.address) (slice_get (entries_of core.old.clients) i) ≡ Some to }
     requires ready { MayTakeTurn S.is_ready core.old core.old.turn.0 out.old }
-    requires sound { IsSoundBeforeTurn S.goes_on S.count core.old.turn.0 core.old }
+    requires sound { IsSoundBeforeTurn S.goes_on S.count S.since core.old.turn.0 core.old }
     ensures acted { (before : List Action) (c : Course) → CourseStands S.stands before core.old out.old c →
         (x : Client) → client_here c.table core.old.turn.0 ≡ Some x →
         CourseStands S.stands before core.new out.new (acted core.old.turn.0 x.address (ticked (ticking_for c.table x) x.session) c) }
     ensures answer { (before : List Action) (c : Course) → CourseStands S.stands before core.old out.old c →
         (x : Client) → client_here c.table core.old.turn.0 ≡ Some x → result ≡ (ticked (ticking_for c.table x) x.session).answer }
-    ensures but { IsSoundBut S.goes_on S.count core.old.turn.0 core.new }
-    ensures sound { GoesOnUnlessOver (IsSound S.goes_on S.count core.new) result }
+    ensures but { IsSoundBut S.goes_on S.count S.since core.old.turn.0 core.new }
+    ensures sound { GoesOnUnlessOver (IsSound S.goes_on S.count S.since core.new) result }
     ensures turn_stays { core.new.turn ≡ core.old.turn }
     ensures uses { (effects bytes : ℕ) → IsReadyAt S.is_ready core.old core.old.turn.0 effects bytes → Uses out.old out.new effects bytes }
 {
@@ -78,11 +78,11 @@ fn end_if_over<S: ClientSession + Drop>(
 )
     requires room { HasRoom out.old 5 39 }
     requires turn { core.old.turn ≡ cid }
-    requires but { IsSoundBut S.goes_on S.count cid.0 core.old }
-    requires sound { GoesOnUnlessOver (IsSound S.goes_on S.count core.old) turn }
+    requires but { IsSoundBut S.goes_on S.count S.since cid.0 core.old }
+    requires sound { GoesOnUnlessOver (IsSound S.goes_on S.count S.since core.old) turn }
     ensures turned { (before : List Action) (c : Course) → CourseStands S.stands before core.old out.old c →
         CourseStands S.stands before core.new out.new (endings.turned cid.0 turn c) }
-    ensures sound { IsSound S.goes_on S.count core.new }
+    ensures sound { IsSound S.goes_on S.count S.since core.new }
     ensures uses { Uses out.old out.new 5 39 }
 {
     match turn {
@@ -99,10 +99,10 @@ fn take_turn<S: ClientSession + Drop>(core: &mut ServerCore<S>, i: usize, out: &
     requires place { place_of core.old.turn.0 (entries_of core.old.clients) ≡ Some i }
     requires within { i < length (entries_of core.old.clients) }
     requires ready { MayTakeTurn S.is_ready core.old core.old.turn.0 out.old }
-    requires sound { IsSoundBeforeTurn S.goes_on S.count core.old.turn.0 core.old }
+    requires sound { IsSoundBeforeTurn S.goes_on S.count S.since core.old.turn.0 core.old }
     ensures ticked { (before : List Action) (c : Course) → CourseStands S.stands before core.old out.old c →
         CourseStands S.stands before core.new out.new (definitions.client_ticked core.old.turn.0 c) }
-    ensures sound { IsSound S.goes_on S.count core.new }
+    ensures sound { IsSound S.goes_on S.count S.since core.new }
     ensures uses { (effects bytes : ℕ) → IsReadyAt S.is_ready core.old core.old.turn.0 effects bytes → Uses out.old out.new (effects + 7) (bytes + 1563) }
 {
     server_state::places_tell_of_clients::<S>();
@@ -123,10 +123,10 @@ pub fn client_ticked<S: ClientSession + Drop>(
 )
     requires next { IsNext out.old.staged core.old.turn.0 cid.0 }
     requires ready { MayTakeTurn S.is_ready core.old cid.0 out.old }
-    requires sound { IsSoundBeforeTurn S.goes_on S.count cid.0 core.old }
+    requires sound { IsSoundBeforeTurn S.goes_on S.count S.since cid.0 core.old }
     ensures ticked { (before : List Action) (c : Course) → CourseStands S.stands before core.old out.old c →
         CourseStands S.stands before core.new out.new (definitions.client_ticked cid.0 c) }
-    ensures sound { IsSound S.goes_on S.count core.new }
+    ensures sound { IsSound S.goes_on S.count S.since core.new }
     ensures uses { (effects bytes : ℕ) → IsReadyAt S.is_ready core.old cid.0 effects bytes → Uses out.old out.new (effects + 7) (bytes + 1563) }
 {
     server_state::places_tell_of_clients::<S>();

@@ -7,7 +7,7 @@ use Rattle.server_table.specs.Time.{ticking_for}
 use Rattle.server_state.specs.Core.{CourseStands, IsSound}
 use Rattle.server_state.specs.Places.{IsChangedAt}
 use Rattle.server_time.proofs.Acted.{answered_there, called, counted_there}
-use Rattle.server_time.proofs.Sound.{is_sound, is_sound_but, unless_over}
+use Rattle.server_time.proofs.Sound.{goes_there, is_sound, is_sound_but, unless_over}
 use Rattle.server_time.proofs.turn.tick_at.Goals as goal
 
 pub returns-clause-acted : goal.returns-clause-acted
@@ -40,8 +40,8 @@ pub returns-clause-but : goal.returns-clause-but
 returns-clause-but g c =
     let core = c.args.core.now in
     let w = c.tick_client-turn.new.client in
-    is_sound_but g.S.ClientSession.goes_on g.S.ClientSession.count core (with_value_at core.clients c.args.i w) c.args.i core.turn.0 c.value_at.result.now w
-    c.requires.sound c.requires.place c.value_at.ensures.value c.tick_client-turn.ensures.count
+    is_sound_but g.S.ClientSession.goes_on g.S.ClientSession.count g.S.ClientSession.since core (with_value_at core.clients c.args.i w) c.args.i core.turn.0 c.value_at.result.now w
+    c.requires.sound c.requires.place c.value_at.ensures.value c.tick_client-turn.ensures.count c.tick_client-turn.ensures.since
     (record { entries_are = c.lending_sets_the_value.ensures core.clients c.args.i w; admitted_is = refl; most_is = refl }) c.opened_from.result c.opened_from.ensures.few
 
 pub returns-clause-sound : goal.returns-clause-sound
@@ -49,8 +49,16 @@ returns-clause-sound g c =
     let core = c.args.core.now in
     let w = c.tick_client-turn.new.client in
     unless_over (g.S.ClientSession.goes_on w.session)
-    (IsSound g.S.ClientSession.goes_on g.S.ClientSession.count (record core { clients = with_value_at core.clients c.args.i w; connections = core.connections + c.opened_from.result }))
+    (IsSound g.S.ClientSession.goes_on g.S.ClientSession.count g.S.ClientSession.since (record core { clients = with_value_at core.clients c.args.i w; connections = core.connections + c.opened_from.result }))
     c.tick_client-turn.result c.tick_client-turn.ensures.goes_on
-    (is_sound g.S.ClientSession.goes_on g.S.ClientSession.count core (with_value_at core.clients c.args.i w) c.args.i core.turn.0 c.value_at.result.now w
-    c.requires.sound c.requires.place c.value_at.ensures.value c.tick_client-turn.ensures.count
+    (is_sound g.S.ClientSession.goes_on g.S.ClientSession.count g.S.ClientSession.since core (with_value_at core.clients c.args.i w) c.args.i core.turn.0 c.value_at.result.now w
+    c.requires.sound c.requires.place c.value_at.ensures.value c.tick_client-turn.ensures.count c.tick_client-turn.ensures.since
     (record { entries_are = c.lending_sets_the_value.ensures core.clients c.args.i w; admitted_is = refl; most_is = refl }) c.opened_from.result c.opened_from.ensures.few)
+
+pub tick_client-turn-requires-clause-goes_on : goal.tick_client-turn-requires-clause-goes_on
+tick_client-turn-requires-clause-goes_on g c =
+    (goes_there g.S.ClientSession.goes_on g.S.ClientSession.count g.S.ClientSession.since c.args.core.now c.args.i c.value_at.result.now c.requires.sound.sound c.value_at.ensures.value).0
+
+pub tick_client-turn-requires-clause-later : goal.tick_client-turn-requires-clause-later
+tick_client-turn-requires-clause-later g c =
+    (goes_there g.S.ClientSession.goes_on g.S.ClientSession.count g.S.ClientSession.since c.args.core.now c.args.i c.value_at.result.now c.requires.sound.sound c.value_at.ensures.value).1
