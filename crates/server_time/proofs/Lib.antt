@@ -3,3 +3,4 @@ mod Pinged
 mod Sound
 mod Acted
 mod Begun
+mod Ready

@@ -20,12 +20,12 @@ use Rattle.server_time.specs.Turns.{IsSoundBeforeTurn}
 
 -- ---- lists
 
-all_at : {X : Type 0} (P : X → Type 0) (xs : List X) (i : ℕ) (v : X) → AllByRecursion P xs → slice_get xs i ≡ Some v → P v
+pub all_at : {X : Type 0} (P : X → Type 0) (xs : List X) (i : ℕ) (v : X) → AllByRecursion P xs → slice_get xs i ≡ Some v → P v
 all_at P [] i v all there = absurd (false≢true (ap is_some there))
 all_at P (x ∷ xs) zero v all there = subst P (ap (λ (o : Option _). unwrap_or o x) there) all.0
 all_at P (x ∷ xs) (suc i) v all there = all_at P xs i v all.1 there
 
-all_changed : {X : Type 0} (P : X → Type 0) (f : X → X) (xs : List X) (i : ℕ) → AllByRecursion P xs → ((v : X) → slice_get xs i ≡ Some v → P (f v))
+pub all_changed : {X : Type 0} (P : X → Type 0) (f : X → X) (xs : List X) (i : ℕ) → AllByRecursion P xs → ((v : X) → slice_get xs i ≡ Some v → P (f v))
     → AllByRecursion P (changed_at i f xs)
 all_changed P f [] i all new = all
 all_changed P f (x ∷ xs) zero all new = (new x refl, all.1)

@@ -2,6 +2,7 @@
 #![tactic(auto)]
 
 mod keepalive;
+mod memory;
 mod pinging;
 mod session;
 mod turn;
