@@ -5,6 +5,7 @@ use Rattle.std.specs.List.{AllByRecursion}
 use Rattle.std.proofs.lemmas.Bool.{false≢true}
 use Rattle.std.proofs.lemmas.Grind.{common_steps}
 use Rattle.vpn_links.specs.Actions.{Action, Contents}
+use Rattle.vpn_links.specs.declared.events.Kind.{Kind}
 use Rattle.client_table.specs.declared.key.Key.{Key}
 use Rattle.client_table.specs.declared.table.ClientTable.{ClientTable}
 use Rattle.client_table.specs.Changes as table
@@ -20,6 +21,8 @@ use Rattle.server_state.specs.declared.client.ClientState.{ClientState}
 use Rattle.server_state.specs.declared.state.ServerCore.{ServerCore}
 use Rattle.server_state.specs.Core.{CoreStands, CourseStands, FileStands, GoesOn, IsOfClient, StateStands}
 use Rattle.server_state.specs.Places.{IsChangedAt, IsThere}
+use Rattle.server_time.specs.Memory.{AreReady, StaysSame}
+use Rattle.server_time.specs.Turns.{IsReadyAs}
 use Rattle.server_time.proofs.Pinged.{value_is}
 use Rattle.server_time.proofs.Sound.{all_at, all_changed}
 
@@ -155,3 +158,66 @@ go_on_still goes_on count since most moment es i v w all value goes counted told
       few = subst (λ n. n ≤ most) (ap (λ (v : ClientState _). count v.session) same ∙ sym counted) was.few;
       past = subst (λ n. n ≤ moment) (ap (λ (v : ClientState _). since v.session) same ∙ sym told) was.past;
     })
+
+-- ---- all clients
+
+pub stays_itself : {S : Type 0} (means : S → Peer → Type 0) (goes_on : S → Type 0) (count since : S → ℕ) (core : ServerCore S) → StaysSame means goes_on count since core core
+stays_itself means goes_on count since core = record {
+  same = λ before out c h. h;
+  others = refl;
+  sessions = λ most moment all. all;
+  admitted = refl;
+  most = refl;
+  number = refl;
+}
+
+pub stays_on : {S : Type 0} (means : S → Peer → Type 0) (goes_on : S → Type 0) (count since : S → ℕ) (a b c : ServerCore S) → StaysSame means goes_on count since a b
+    → StaysSame means goes_on count since b c → StaysSame means goes_on count since a c
+stays_on means goes_on count since a b c first second = record {
+  same = λ before out course h. second.same before out course (first.same before out course h);
+  others = second.others ∙ ap (λ (core : ServerCore _). record core { clients = c.clients }) first.others;
+  sessions = λ most moment all. second.sessions most moment (first.sessions most moment all);
+  admitted = second.admitted ∙ first.admitted;
+  most = second.most ∙ first.most;
+  number = second.number ∙ first.number;
+}
+
+pub all_go_on : {S : Type 0} (means : S → Peer → Type 0) (goes_on : S → Type 0) (count since : S → ℕ) (before after : ServerCore S)
+    → StaysSame means goes_on count since before after → (most : ℕ) → AllByRecursion (GoesOn goes_on count since most before.moment.0) (entries_of before.clients)
+    → AllByRecursion (GoesOn goes_on count since most after.moment.0) (entries_of after.clients)
+all_go_on means goes_on count since before after h most all =
+    subst (λ (m : ℕ). AllByRecursion (GoesOn goes_on count since most m) (entries_of after.clients)) (sym (ap (λ (core : ServerCore _). core.moment.0) h.others))
+    (h.sessions most before.moment.0 all)
+
+module _ {S : Type 0} (is_ready : S → Kind → Bool → ℕ → ℕ → Type 0) where
+  -- no client stands behind all
+  pub none_ready : (es : List (Entry (ClientState S))) (n : ℕ) → n ≡ length es → (effects bytes : ℕ) → AreReady is_ready (drop n es) effects bytes
+  none_ready [] zero is effects bytes = tt
+  none_ready [] (suc n) is effects bytes = tt
+  none_ready (e ∷ es) zero is effects bytes = absurd (grind (arith, common_steps))
+  none_ready (e ∷ es) (suc n) is effects bytes = none_ready es n (omega (arith, is)) effects bytes
+
+  first_ready : (es : List (Entry (ClientState S))) (i : ℕ) → i < length es → (a b m n effects bytes : ℕ)
+      → ((v : ClientState S) → option_map (λ e. e.value) (slice_get es i) ≡ Some v → IsReadyAs is_ready v a b)
+      → AreReady is_ready (drop (suc i) es) m n → m + a + 7 ≡ effects → n + b + 1563 ≡ bytes → AreReady is_ready (drop i es) effects bytes
+  first_ready [] i within a b m n effects bytes ready rest e1 e2 = absurd (grind (arith, common_steps))
+  first_ready (e ∷ es) zero within a b m n effects bytes ready rest e1 e2 = record {
+    own_effects = a;
+    own_bytes = b;
+    other_effects = m;
+    other_bytes = n;
+    ready = ready e.value refl;
+    rest = rest;
+    effects_are = e1;
+    bytes_are = e2;
+  }
+  first_ready (e ∷ es) (suc i) within a b m n effects bytes ready rest e1 e2 = first_ready es i (omega (arith, within)) a b m n effects bytes ready rest e1 e2
+
+  -- one client more, before those that are ready
+  pub one_more_ready : (es was : List (Entry (ClientState S))) (i : ℕ) → i < length es → (a b m n effects bytes : ℕ)
+      → ((v : ClientState S) → option_map (λ e. e.value) (slice_get es i) ≡ Some v → IsReadyAs is_ready v a b) → drop (i + 1) es ≡ drop (i + 1) was
+      → AreReady is_ready (drop (i + 1) was) m n → effects ≡ m + a + 7 → bytes ≡ n + b + 1563 → AreReady is_ready (drop i es) effects bytes
+  one_more_ready es was i within a b m n effects bytes ready same rest e1 e2 =
+      let more : i + 1 ≡ suc i = omega arith in
+      first_ready es i within a b m n effects bytes ready
+      (subst (λ (k : ℕ). AreReady is_ready (drop k es) m n) more (subst (λ es. AreReady is_ready es m n) (sym same) rest)) (sym e1) (sym e2)

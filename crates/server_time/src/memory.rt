@@ -1,20 +1,19 @@
 //! The memory that a server takes before time passes for its clients.
 
-ghost use Rattle.std.specs.Prelude.{◌≡◌, ◌<◌, ◌≤◌, ◌+◌, ◌-◌, ◌^◌, ℕ, List, IfOk, Some, drop, length, option_map, slice_get};
+ghost use Rattle.std.specs.Prelude.{◌≡◌, ◌<◌, ◌≤◌, ◌+◌, ◌-◌, ◌^◌, IfOk, OnOk, Some, drop, length, option_map, slice_get};
 ghost use Rattle.std.specs.List.{AllByRecursion};
-ghost use Rattle.vpn_links.specs.Actions.{Action, Contents};
-ghost use Rattle.client_table.specs.Tables.{admitted_by, entries_of, most_of};
-ghost use Rattle.server_table.specs.Courses.{Course};
+ghost use Rattle.vpn_links.specs.Actions.{Holds};
+ghost use Rattle.client_table.specs.Tables.{entries_of};
 ghost use Rattle.server_table.specs.Table.{Client};
 ghost use Rattle.server_state.specs.declared.client.ClientState.{ClientState};
-ghost use Rattle.server_state.specs.Core.{CourseStands, GoesOn, StateStands};
-ghost use Rattle.server_time.specs.Memory.{AreReady};
+ghost use Rattle.server_state.specs.Core.{GoesOn, StateStands};
+ghost use Rattle.server_time.specs.Memory.{AreReady, HasMemory, StaysSame};
 ghost use Rattle.server_time.specs.Turns.{IsReadyAs};
 
 use peer_table::ClientSession;
 use server_state::{ClientState, ServerCore};
 use vpn_base::NoMemory;
-use vpn_links::Kind;
+use vpn_links::{Kind, Outbox};
 
 // The session of a client takes the memory.
 fn ready_client<S: ClientSession>(client: &mut ClientState<S>) -> Result<(usize, usize), NoMemory>
@@ -38,13 +37,7 @@ fn ready_at<S: ClientSession>(
 ) -> Result<(usize, usize), NoMemory>
     requires within { i < length (entries_of core.old.clients) }
     requires sessions { AllByRecursion (GoesOn S.goes_on S.count S.since (2 ^ 63) core.old.moment.0) (entries_of core.old.clients) }
-    ensures same { (before : List Action) (out : Contents) (c : Course) → CourseStands S.stands before core.old out c → CourseStands S.stands before core.new out c }
-    ensures others { core.new ≡ record core.old { clients = core.new.clients } }
-    ensures sessions { (most : ℕ) → AllByRecursion (GoesOn S.goes_on S.count S.since most core.old.moment.0) (entries_of core.old.clients) →
-        AllByRecursion (GoesOn S.goes_on S.count S.since most core.old.moment.0) (entries_of core.new.clients) }
-    ensures admitted { admitted_by core.new.clients ≡ admitted_by core.old.clients }
-    ensures most { most_of core.new.clients ≡ most_of core.old.clients }
-    ensures length { length (entries_of core.new.clients) ≡ length (entries_of core.old.clients) }
+    ensures stays { StaysSame S.stands S.goes_on S.count S.since core.old core.new }
     ensures behind { drop (i + 1) (entries_of core.new.clients) ≡ drop (i + 1) (entries_of core.old.clients) }
     ensures ready { IfOk result (λ room. (v : ClientState S) → option_map (λ e. e.value) (slice_get (entries_of core.new.clients) i) ≡ Some v →
         IsReadyAs S.is_ready v room.0 room.1) }
@@ -52,4 +45,50 @@ fn ready_at<S: ClientSession>(
     client_table::lending_sets_the_value::<ClientState<S>>();
     server_state::places_tell_of_clients::<S>();
     ready_client(core.clients.value_at(i))
+}
+
+// The sum of three numbers. No memory has more room than a usize can say.
+fn sum(so_far: usize, more: usize, most: usize) -> Result<usize, NoMemory>
+    ensures { IfOk result (λ n. n ≡ so_far + more + most) }
+{
+    let Some(first) = so_far.checked_add(more) else {
+        return Err(NoMemory);
+    };
+    let Some(all) = first.checked_add(most) else {
+        return Err(NoMemory);
+    };
+    Ok(all)
+}
+
+// The sessions of all clients take the memory, from the last to the first, and it is answered for how many effects
+// and bytes the outbox has to have room, with an ending and a ping of each.
+fn ready_all<S: ClientSession>(core: &mut ServerCore<S>) -> Result<(usize, usize), NoMemory>
+    requires sessions { AllByRecursion (GoesOn S.goes_on S.count S.since (2 ^ 63) core.old.moment.0) (entries_of core.old.clients) }
+    ensures stays { StaysSame S.stands S.goes_on S.count S.since core.old core.new }
+    ensures ready { IfOk result (λ room. AreReady S.is_ready (entries_of core.new.clients) room.0 room.1) }
+{
+    let mut effects = 0;
+    let mut bytes = 0;
+    let mut left = core.clients.count();
+    while 0 < left {
+        left -= 1;
+        let (more_effects, more_bytes) = ready_at(core, left)?;
+        effects = sum(effects, more_effects, 7)?;
+        bytes = sum(bytes, more_bytes, 1563)?;
+    }
+    Ok((effects, bytes))
+}
+
+/// Takes all memory that may be needed where time passes. After want of memory the core stands for the same.
+pub fn take_memory<S: ClientSession>(
+    core: &mut ServerCore<S>,
+    out: &mut Outbox,
+) -> Result<(), NoMemory>
+    requires sessions { AllByRecursion (GoesOn S.goes_on S.count S.since (2 ^ 63) core.old.moment.0) (entries_of core.old.clients) }
+    ensures stays { StaysSame S.stands S.goes_on S.count S.since core.old core.new }
+    ensures outbox { Holds out.new out.old.effects out.old.staged }
+    ensures ready { OnOk result (HasMemory S.is_ready core.new out.new) }
+{
+    let (effects, bytes) = ready_all(core)?;
+    out.reserve(effects, bytes)
 }

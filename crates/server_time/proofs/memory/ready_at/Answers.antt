@@ -8,29 +8,26 @@ use Rattle.server_time.specs.Turns.{IsReadyAs}
 use Rattle.server_time.proofs.Ready.{behind_same, go_on_still, if_ok, length_same, stands_still, value_set}
 use Rattle.server_time.proofs.memory.ready_at.Goals as goal
 
-pub returns-clause-same : goal.returns-clause-same
-returns-clause-same g c before out course h =
+pub returns-clause-stays : goal.returns-clause-stays
+returns-clause-stays g c =
     let core = c.args.core.now in
     let w = c.ready_client.new.client in
-    stands_still g.S.ClientSession.stands before core out course h c.args.i c.value_at.result.now w (with_value_at core.clients c.args.i w)
-    (record { entries_are = c.lending_sets_the_value.ensures core.clients c.args.i w; admitted_is = refl; most_is = refl })
-    c.ready_client.ensures.same c.ready_client.ensures.file (λ t m stands place. c.places_tell_of_clients.ensures.there core t m c.args.i stands place)
-    c.value_at.ensures.value
-
-pub returns-clause-sessions : goal.returns-clause-sessions
-returns-clause-sessions g c most all =
-    let core = c.args.core.now in
-    let w = c.ready_client.new.client in
-    subst (AllByRecursion (GoesOn g.S.ClientSession.goes_on g.S.ClientSession.count g.S.ClientSession.since most core.moment.0))
-    (sym (c.lending_sets_the_value.ensures core.clients c.args.i w))
-    (go_on_still g.S.ClientSession.goes_on g.S.ClientSession.count g.S.ClientSession.since most core.moment.0 (entries_of core.clients) c.args.i c.value_at.result.now w all
-    c.value_at.ensures.value c.ready_client.ensures.goes_on c.ready_client.ensures.count c.ready_client.ensures.since)
-
-pub returns-clause-length : goal.returns-clause-length
-returns-clause-length g c =
-    let core = c.args.core.now in
-    let w = c.ready_client.new.client in
-    ap (λ es. length es) (c.lending_sets_the_value.ensures core.clients c.args.i w) ∙ length_same (with_value w) c.args.i (entries_of core.clients)
+    let entries_are = c.lending_sets_the_value.ensures core.clients c.args.i w in
+    record {
+      same = λ before out course h.
+          stands_still g.S.ClientSession.stands before core out course h c.args.i c.value_at.result.now w (with_value_at core.clients c.args.i w)
+          (record { entries_are = entries_are; admitted_is = refl; most_is = refl })
+          c.ready_client.ensures.same c.ready_client.ensures.file (λ t m stands place. c.places_tell_of_clients.ensures.there core t m c.args.i stands place)
+          c.value_at.ensures.value;
+      others = refl;
+      sessions = λ most moment all.
+          subst (AllByRecursion (GoesOn g.S.ClientSession.goes_on g.S.ClientSession.count g.S.ClientSession.since most moment)) (sym entries_are)
+          (go_on_still g.S.ClientSession.goes_on g.S.ClientSession.count g.S.ClientSession.since most moment (entries_of core.clients) c.args.i c.value_at.result.now w all
+          c.value_at.ensures.value c.ready_client.ensures.goes_on c.ready_client.ensures.count c.ready_client.ensures.since);
+      admitted = refl;
+      most = refl;
+      number = ap (λ es. length es) entries_are ∙ length_same (with_value w) c.args.i (entries_of core.clients);
+    }
 
 pub returns-clause-behind : goal.returns-clause-behind
 returns-clause-behind g c =
