@@ -17,7 +17,12 @@ fn say_too_long(out: &mut Outbox)
     ensures said { Holds out.new (out.old.effects ++ Say (codes "ERROR: command too long") ∷ []) out.old.staged }
     ensures uses { Uses out.old out.new 1 23 }
 {
-    put(out, &Effect::Say { bytes: b"ERROR: command too long" });
+    put(
+        out,
+        &Effect::Say {
+            bytes: b"ERROR: command too long",
+        },
+    );
 }
 
 // Says that a line is no command.
@@ -26,7 +31,12 @@ fn say_unknown(out: &mut Outbox)
     ensures said { Holds out.new (out.old.effects ++ Say (codes "ERROR: unknown command") ∷ []) out.old.staged }
     ensures uses { Uses out.old out.new 1 23 }
 {
-    put(out, &Effect::Say { bytes: b"ERROR: unknown command" });
+    put(
+        out,
+        &Effect::Say {
+            bytes: b"ERROR: unknown command",
+        },
+    );
 }
 
 /// A line of the management interface has come: it is answered that it is too long or no command, and an empty

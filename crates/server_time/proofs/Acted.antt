@@ -1,26 +1,24 @@
 -- What time leaves of the client whose turn it is.
-use Rattle.std.proofs.Common.{◌≡◌, ℕ, ◌+◌, ◌≤◌, List, length, drop, slice_get, Option, None, Some, option_map, refl, ◌++◌, sym, ap, subst, ◌∙◌, arith}
+use Rattle.std.proofs.Common.{◌≡◌, ℕ, ◌≤◌, List, length, drop, slice_get, Option, Some, option_map, sym, ap, subst, ◌∙◌, arith}
 use Rattle.std.specs.Prelude.{is_some, unwrap_or}
 use Rattle.std.proofs.lemmas.List.{length-append}
 use Rattle.vpn_base.specs.declared.address.Addr.{Addr}
-use Rattle.vpn_base.specs.declared.names.Conn.{Conn}
 use Rattle.vpn_links.specs.Actions.{Action, Contents}
 use Rattle.client_table.specs.declared.table.ClientTable.{ClientTable}
 use Rattle.client_table.specs.Changes.{place_of, with_value}
-use Rattle.client_table.specs.Entries.{Entry}
 use Rattle.client_table.specs.Tables.{entries_of}
 use Rattle.peer_table.specs.declared.outcomes.Turn.{Turn}
 use Rattle.peer_table.specs.Outboxes.{Leaves, actions_of}
-use Rattle.peer_table.specs.Peer.{Outcome, Peer}
+use Rattle.peer_table.specs.Peer.{Peer}
 use Rattle.peer_table.specs.Time.{Ticking, ticked, ticking}
-use Rattle.server_table.specs.Courses.{Course, acted}
+use Rattle.server_table.specs.Courses.{Course}
 use Rattle.server_table.specs.Lookups.{client_here}
-use Rattle.server_table.specs.Table.{Client, Table}
+use Rattle.server_table.specs.Table.{Client}
 use Rattle.server_table.specs.Time.{is_idle, ticking_for}
 use Rattle.server_state.specs.declared.client.ClientState.{ClientState}
 use Rattle.server_state.specs.declared.state.ServerCore.{ServerCore}
 use Rattle.server_state.specs.Calls.{HasCalled, opens_in}
-use Rattle.server_state.specs.Core.{CoreStands, CourseStands, FileStands, StateStands, name_once}
+use Rattle.server_state.specs.Core.{CourseStands, FileStands, StateStands, name_once}
 use Rattle.server_state.specs.Places.{IsChangedAt, IsThere}
 use Rattle.server_time.proofs.Pinged.{value_is}
 use Rattle.server_time.proofs.Ticked.{opens_are, opens_behind, ticked_keeps}

@@ -1,11 +1,11 @@
 -- A client's turn begins, and what it comes to.
-use Rattle.std.proofs.Common.{◌≡◌, ℕ, ◌+◌, ◌<◌, ◌≤◌, List, [], ◌∷◌, ◌++◌, append-nil, length, map, Option, None, Some, refl, sym, ap, subst, ◌∙◌, arith}
+use Rattle.std.proofs.Common.{◌≡◌, ℕ, ◌+◌, ◌<◌, List, [], ◌∷◌, ◌++◌, append-nil, length, map, None, Some, sym, ap, subst, ◌∙◌, arith}
 use Rattle.std.specs.List.{AllByRecursion}
 use Rattle.std.proofs.lemmas.List.{length-map}
 use Rattle.vpn_base.specs.declared.names.Cid.{Cid}
 use Rattle.vpn_links.specs.Actions.{Action, Contents, Datagram}
 use Rattle.peer_table.specs.Outboxes.{HasRoom, Uses}
-use Rattle.peer_table.specs.Peer.{Outcome, Peer}
+use Rattle.peer_table.specs.Peer.{Peer}
 use Rattle.peer_table.specs.Time.{ticked}
 use Rattle.peer_table.specs.declared.outcomes.Turn.{Turn}
 use Rattle.server_table.specs.Courses.{Course, Staged, acted}

@@ -4,3 +4,5 @@ mod Sound
 mod Acted
 mod Begun
 mod Ready
+mod Skips
+mod Untold

@@ -19,7 +19,7 @@ use Rattle.server_table.specs.Courses.{Course}
 use Rattle.server_table.specs.Table.{Client, Table}
 use Rattle.server_state.specs.declared.client.ClientState.{ClientState}
 use Rattle.server_state.specs.declared.state.ServerCore.{ServerCore}
-use Rattle.server_state.specs.Core.{CoreStands, CourseStands, FileStands, GoesOn, IsOfClient, StateStands}
+use Rattle.server_state.specs.Core.{CoreStands, CourseStands, FileStands, GoesOn, StateStands}
 use Rattle.server_state.specs.Places.{IsChangedAt, IsThere}
 use Rattle.server_time.specs.Memory.{AreReady, StaysSame}
 use Rattle.server_time.specs.Turns.{IsReadyAs}
@@ -34,12 +34,12 @@ if_ok P Q (Err e) h into = h
 
 -- ---- places
 
-both : (a b : Bool) → (a && b) ≡ true → (a ≡ true) × (b ≡ true)
+pub both : (a b : Bool) → (a && b) ≡ true → (a ≡ true) × (b ≡ true)
 both true true h = (refl, refl)
 both true false h = absurd (false≢true h)
 both false b h = absurd (false≢true h)
 
-is_least : (a b : ℕ) → nat_le a b ≡ true → a ≤ b
+pub is_least : (a b : ℕ) → nat_le a b ≡ true → a ≤ b
 is_least a b is = grind (arith, common_steps)
 
 is_self : (n : ℕ) (b : Bool) → (n == n) ≡ b → b ≡ true

@@ -1,5 +1,5 @@
 -- What holds of every core, after the turn of a client.
-use Rattle.std.proofs.Common.{◌≡◌, ℕ, zero, suc, ◌+◌, ◌*◌, ◌^◌, ◌≤◌, Bool, true, false, List, [], ◌∷◌, slice_get, Option, None, Some, option_map, refl, sym, ap, subst, ◌∙◌, arith}
+use Rattle.std.proofs.Common.{◌≡◌, ℕ, zero, suc, ◌+◌, ◌*◌, ◌^◌, ◌≤◌, List, [], ◌∷◌, slice_get, Option, None, Some, option_map, refl, sym, ap, subst, ◌∙◌, arith}
 use Rattle.std.specs.Prelude.{is_some, unwrap_or}
 use Rattle.std.specs.List.{AllByRecursion}
 use Rattle.std.proofs.lemmas.Bool.{false≢true}
@@ -7,7 +7,7 @@ use Rattle.client_table.specs.declared.table.ClientTable.{ClientTable}
 use Rattle.client_table.specs.Changes.{changed_at, earlier, place_of, with_value}
 use Rattle.client_table.specs.Entries.{Entry}
 use Rattle.client_table.specs.Finding.{has_number}
-use Rattle.client_table.specs.Tables.{admitted_by, entries_of, most_of}
+use Rattle.client_table.specs.Tables.{entries_of}
 use Rattle.peer_table.specs.declared.outcomes.Turn.{Turn}
 use Rattle.peer_table.specs.declared.outcomes.Turn.TheVariants.{Exchange, Going, Ignored, Named, Over}
 use Rattle.peer_table.specs.Outboxes.{GoesOnUnlessOver}

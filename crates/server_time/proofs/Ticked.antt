@@ -1,16 +1,15 @@
 -- What time leaves of a client's session.
-use Rattle.std.proofs.Common.{◌≡◌, ℕ, zero, suc, ◌+◌, ◌≤◌, Bool, true, false, List, [], ◌∷◌, ◌++◌, drop, length, slice_get, Option, None, Some, refl, sym, ap, subst, ◌∙◌, arith}
-use Rattle.vpn_base.specs.declared.names.Cause.TheVariants.{HandWindow, PingRestart}
+use Rattle.std.proofs.Common.{◌≡◌, ℕ, suc, ◌+◌, ◌≤◌, Bool, true, false, List, [], ◌∷◌, ◌++◌, drop, length, slice_get, Option, None, Some, refl, sym, ap, subst, ◌∙◌, arith}
 use Rattle.vpn_base.specs.declared.names.Role.{Role}
 use Rattle.vpn_links.specs.Actions.{Action}
 use Rattle.peer_table.specs.declared.outcomes.Turn.{Turn}
-use Rattle.peer_table.specs.declared.outcomes.Turn.TheVariants.{Going, Over}
+use Rattle.peer_table.specs.declared.outcomes.Turn.TheVariants.{Going}
 use Rattle.peer_table.specs.ControlPackets.{with_next}
 use Rattle.peer_table.specs.Exchange.{closing, session_closed}
 use Rattle.peer_table.specs.KeySessions.{Session}
 use Rattle.peer_table.specs.Outboxes.{actions_of}
 use Rattle.peer_table.specs.Peer.{Closes, Doing, Opens, Outcome, Peer, Puts, Writes, answered, ready_sent_in}
-use Rattle.peer_table.specs.Time.{Ticking, gone_by, is_late, renewed, renews, resent, resent_in, retired, staying, ticked, ticked_idle, ticked_late}
+use Rattle.peer_table.specs.Time.{Ticking, is_late, renewed, renews, resent, resent_in, retired, staying, ticked, ticked_idle, ticked_late}
 use Rattle.server_table.specs.Courses.{opened_by}
 use Rattle.server_state.specs.Calls.{opens_in}
 

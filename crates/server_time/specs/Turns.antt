@@ -1,5 +1,5 @@
 -- What holds before the turn of a client.
-use Rattle.std.specs.Prelude.{◌≡◌, ℕ, ◌+◌, ◌*◌, ◌^◌, ◌<◌, ◌≤◌, is_some, Bool, List, [], ◌∷◌, slice_get, option_map, Option, Some, None}
+use Rattle.std.specs.Prelude.{◌≡◌, ℕ, ◌+◌, ◌*◌, ◌^◌, ◌<◌, ◌≤◌, is_some, Bool, List, [], ◌∷◌, slice_get, option_map, Some}
 use Rattle.vpn_links.specs.Actions.{Contents, Datagram}
 use Rattle.vpn_links.specs.declared.events.Kind.{Kind}
 use Rattle.vpn_links.specs.declared.events.Kind.TheVariants.{Tick}

@@ -36,12 +36,7 @@ fn opened_from(out: &Outbox, from: usize) -> u64
 }
 
 // Time passes for the client at this place, whose turn it is. No session opens more than one connection then.
-fn tick_at<S: ClientSession>(
-    core: &mut ServerCore<S>,
-    i: usize,
-    to: Addr,
-    out: &mut Outbox,
-) -> Turn
+fn tick_at<S: ClientSession>(core: &mut ServerCore<S>, i: usize, to: Addr, out: &mut Outbox) -> Turn
     requires place { place_of core.old.turn.0 (entries_of core.old.clients) ≡ Some i }
     requires within { i < length (entries_of core.old.clients) }
     requires key { option_map (λ e. e.key.address) (slice_get (entries_of core.old.clients) i) ≡ Some to }
@@ -116,11 +111,7 @@ fn take_turn<S: ClientSession + Drop>(core: &mut ServerCore<S>, i: usize, out: &
 /// Time has passed for the client of this number, if it is here: its session does what is due, which may end
 /// the client, and where none ended it, a ping may be due. It takes no memory. The numbers of all clients that
 /// had their turn in this step are lower.
-pub fn client_ticked<S: ClientSession + Drop>(
-    core: &mut ServerCore<S>,
-    cid: Cid,
-    out: &mut Outbox,
-)
+pub fn client_ticked<S: ClientSession + Drop>(core: &mut ServerCore<S>, cid: Cid, out: &mut Outbox)
     requires next { IsNext out.old.staged core.old.turn.0 cid.0 }
     requires ready { MayTakeTurn S.is_ready core.old cid.0 out.old }
     requires sound { IsSoundBeforeTurn S.goes_on S.count S.since cid.0 core.old }

@@ -1,4 +1,4 @@
-use Rattle.std.proofs.Common.{◌≡◌, ◌≤◌, drop, length}
+use Rattle.std.proofs.Common.{◌≤◌, drop, length}
 use Rattle.client_table.specs.Tables.{entries_of}
 use Rattle.server_time.specs.Memory.{AreReady, StaysSame}
 use Rattle.server_time.proofs.memory.ready_all.Given as goal

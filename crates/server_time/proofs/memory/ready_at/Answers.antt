@@ -41,7 +41,7 @@ returns-clause-ready g c =
     let w = c.ready_client.new.client in
     if_ok (λ room. IsReadyAs g.S.ClientSession.is_ready w room.0 room.1)
     (λ room. (v : ClientState _) → option_map (λ e. e.value) (slice_get (entries_of (with_value_at core.clients c.args.i w)) c.args.i) ≡ Some v
-        → IsReadyAs g.S.ClientSession.is_ready v room.0 room.1)
+    → IsReadyAs g.S.ClientSession.is_ready v room.0 room.1)
     c.ready_client.result c.ready_client.ensures.ready
     (λ room ready v there.
     subst (λ v. IsReadyAs g.S.ClientSession.is_ready v room.0 room.1)

@@ -1,4 +1,4 @@
-use Rattle.std.proofs.Common.{sym, ap, ◌∙◌}
+use Rattle.std.proofs.Common.{sym, ◌∙◌}
 use Rattle.server_time.proofs.Pinged.{due_there, due_to_nobody}
 use Rattle.server_time.proofs.pinging.is_due.Goals as goal
 

@@ -1,7 +1,7 @@
-use Rattle.std.proofs.Common.{sym, ap, subst, ◌∙◌}
+use Rattle.std.proofs.Common.{sym, subst, ◌∙◌}
 use Rattle.server_table.specs.InnerPackets as server
 use Rattle.server_state.specs.Core.{CourseStands}
-use Rattle.server_time.proofs.Pinged.{is_not_pinged, is_pinged}
+use Rattle.server_time.proofs.Pinged.{is_pinged}
 use Rattle.server_time.proofs.pinging.ping.Goals as goal
 
 pub returns-then-is_due-clause-pinged : goal.returns-then-is_due-clause-pinged

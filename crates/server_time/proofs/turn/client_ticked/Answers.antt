@@ -1,4 +1,4 @@
-use Rattle.std.proofs.Common.{refl, sym, ap, subst, ◌∙◌}
+use Rattle.std.proofs.Common.{sym, ◌∙◌}
 use Rattle.server_time.proofs.Begun.{none_ticked, turn_begun, uses_none}
 use Rattle.server_time.proofs.turn.client_ticked.Goals as goal
 

@@ -1,4 +1,3 @@
-use Rattle.std.proofs.Common.{refl, sym, ap, subst, ◌∙◌}
 use Rattle.server_table.specs.Courses.{acted}
 use Rattle.server_table.specs.Endings.{turned}
 use Rattle.server_table.specs.Time.{ticking_for}

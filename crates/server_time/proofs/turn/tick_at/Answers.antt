@@ -1,4 +1,4 @@
-use Rattle.std.proofs.Common.{◌+◌, refl, sym, ap, subst, ◌∙◌}
+use Rattle.std.proofs.Common.{◌+◌, refl, sym, subst}
 use Rattle.client_table.specs.Changes.{with_value}
 use Rattle.client_table.specs.Tables.{with_value_at}
 use Rattle.peer_table.specs.Time.{ticked}
