@@ -1,0 +1,14 @@
+//! Time passes for a server.
+#![tactic(auto)]
+
+mod keepalive;
+mod laws;
+mod memory;
+mod pinging;
+mod session;
+mod turn;
+
+pub use laws::{absent_numbers_change_nothing, no_counts_are_told};
+pub use memory::take_memory;
+pub use pinging::ping;
+pub use turn::client_ticked;
