@@ -70,10 +70,10 @@ reserved_stands means core ct t same h = record {
   last_taken = h.last_taken;
 }
 
-pub reserved_sound : {S : Type 0} (goes_on : S → Type 0) (count : S → ℕ) (core : ServerCore S) (ct : ClientTable (ClientState S))
-    → Has ct (entries_of core.clients) (most_of core.clients) (admitted_by core.clients) → IsSoundAhead goes_on count core → IsSoundAhead goes_on count (record core { clients = ct })
-reserved_sound goes_on count core ct same h = record {
-  sessions = subst (AllByRecursion (GoesOn goes_on count (core.events - 1 + 1))) (sym same.entries_are) h.sessions;
+pub reserved_sound : {S : Type 0} (goes_on : S → Type 0) (count since : S → ℕ) (core : ServerCore S) (ct : ClientTable (ClientState S))
+    → Has ct (entries_of core.clients) (most_of core.clients) (admitted_by core.clients) → IsSoundAhead goes_on count since core → IsSoundAhead goes_on count since (record core { clients = ct })
+reserved_sound goes_on count since core ct same h = record {
+  sessions = subst (AllByRecursion (GoesOn goes_on count since (core.events - 1 + 1) core.moment.0)) (sym same.entries_are) h.sessions;
   most = subst (λ k. k ≤ 4096) (sym same.most_is) h.most;
   admitted = subst (λ k. k ≤ core.events - 1) (sym same.admitted_is) h.admitted;
   connections = h.connections;
@@ -87,14 +87,14 @@ not_last [] x (suc j) v there apart = there
 not_last (y ∷ xs) x zero v there apart = there
 not_last (y ∷ xs) x (suc j) v there apart = not_last xs x j v there (λ e. apart (ap suc e))
 
-module _ {S : Type 0} (goes_on : S → Type 0) (count : S → ℕ) (core : ServerCore S) (counted : 1 ≤ core.events) (h : IsSoundAhead goes_on count core)
-    (e : Entry (ClientState S)) (few : count e.value.session ≤ 2) (ct : ClientTable (ClientState S))
+module _ {S : Type 0} (goes_on : S → Type 0) (count since : S → ℕ) (core : ServerCore S) (counted : 1 ≤ core.events) (h : IsSoundAhead goes_on count since core)
+    (e : Entry (ClientState S)) (few : count e.value.session ≤ 2) (past : since e.value.session ≤ core.moment.0) (ct : ClientTable (ClientState S))
     (has : Has ct (entries_of core.clients ++ e ∷ []) (most_of core.clients) (admitted_by core.clients + 1)) (turn : Cid) (last : Option (Cid × ℕ)) where
   abbrev after : ServerCore S
   after = record core { clients = ct; connections = core.connections + 1; last_taken = last; turn = turn }
 
-  into : (e : Entry (ClientState S)) → GoesOn goes_on count (core.events - 1 + 1) e → GoesOn goes_on count (core.events + 1) e
-  into e g = record { session = g.session; few = omega (arith, counted, g.few) }
+  into : (e : Entry (ClientState S)) → GoesOn goes_on count since (core.events - 1 + 1) core.moment.0 e → GoesOn goes_on count since (core.events + 1) core.moment.0 e
+  into e g = record { session = g.session; few = omega (arith, counted, g.few); past = g.past }
 
   admitted_few : admitted_by ct ≤ core.events
   admitted_few = let is = has.admitted_is in let most = h.admitted in omega (arith, counted, is, most)
@@ -102,20 +102,20 @@ module _ {S : Type 0} (goes_on : S → Type 0) (count : S → ℕ) (core : Serve
   opened_few : core.connections + 1 ≤ 2 ^ 13 * core.events
   opened_few = let most = h.connections in omega (arith, counted, most)
 
-  sound_on : goes_on e.value.session → IsSound goes_on count after
+  sound_on : goes_on e.value.session → IsSound goes_on count since after
   sound_on goes = record {
-    sessions = subst (AllByRecursion (GoesOn goes_on count (core.events + 1))) (sym has.entries_are)
-        (all_last (GoesOn goes_on count (core.events - 1 + 1)) (GoesOn goes_on count (core.events + 1)) (entries_of core.clients) e into h.sessions
-        (record { session = goes; few = omega (arith, counted, few) }));
+    sessions = subst (AllByRecursion (GoesOn goes_on count since (core.events + 1) core.moment.0)) (sym has.entries_are)
+        (all_last (GoesOn goes_on count since (core.events - 1 + 1) core.moment.0) (GoesOn goes_on count since (core.events + 1) core.moment.0) (entries_of core.clients) e into h.sessions
+        (record { session = goes; few = omega (arith, counted, few); past = past }));
     most = subst (λ k. k ≤ 4096) (sym has.most_is) h.most;
     admitted = admitted_few;
     connections = opened_few;
   }
 
-  sound_but : table.place_of turn.0 (entries_of core.clients ++ e ∷ []) ≡ Some (length (entries_of core.clients)) → IsSoundBut goes_on count turn.0 after
+  sound_but : table.place_of turn.0 (entries_of core.clients ++ e ∷ []) ≡ Some (length (entries_of core.clients)) → IsSoundBut goes_on count since turn.0 after
   sound_but place = record {
     sessions = λ j d there apart.
-        into d (all_at (GoesOn goes_on count (core.events - 1 + 1)) (entries_of core.clients) j d h.sessions
+        into d (all_at (GoesOn goes_on count since (core.events - 1 + 1) core.moment.0) (entries_of core.clients) j d h.sessions
         (not_last (entries_of core.clients) e j d (subst (λ es. slice_get es j ≡ Some d) has.entries_are there)
         (λ same. apart (ap (table.place_of turn.0) has.entries_are ∙ place ∙ ap Some same))));
     most = subst (λ k. k ≤ 4096) (sym has.most_is) h.most;
@@ -125,7 +125,7 @@ module _ {S : Type 0} (goes_on : S → Type 0) (count : S → ℕ) (core : Serve
 
   -- the client has taken its first packet
   pub first_sound : (answer : Result Turn Refused) → GoesOnAfter (goes_on e.value.session) answer → e.key.number.0 ≡ admitted_by core.clients → turn.0 ≡ admitted_by core.clients
-      → IsSoundAfter goes_on count (record core { clients = ct; connections = core.connections + 1; last_taken = last; turn = turn }) answer
+      → IsSoundAfter goes_on count since (record core { clients = ct; connections = core.connections + 1; last_taken = last; turn = turn }) answer
   first_sound (Ok Going) goes num is = sound_on goes
   first_sound (Ok Ignored) goes num is = sound_on goes
   first_sound (Ok Named) goes num is = sound_on goes

@@ -58,54 +58,55 @@ value_some None v P is into = absurd (false≢true (ap is_some is))
 value_some (Some e) v P is into = subst P (ap (λ o. unwrap_or o v) is) (into e refl)
 
 -- a session goes on, and has at most so many key sessions
-pub record Goes {S : Type 0} (goes_on : S → Type 0) (count : S → ℕ) (most : ℕ) (v : ClientState S) : Type 0 where
+pub record Goes {S : Type 0} (goes_on : S → Type 0) (count since : S → ℕ) (most moment : ℕ) (v : ClientState S) : Type 0 where
   pub session : goes_on v.session
   pub few : count v.session ≤ most
+  pub past : since v.session ≤ moment
 
 one_opened : (connections events k : ℕ) → k ≤ 1 → 1 ≤ events → connections ≤ 2 ^ 13 * (events - 1) → connections + k ≤ 2 ^ 13 * events
 one_opened connections events k one counted few = omega (arith, one, counted, few)
 
-into_last : {S : Type 0} {goes_on : S → Type 0} {count : S → ℕ} {core : ServerCore S} → IsSound goes_on count core → (last : Option (Cid × ℕ))
-    → IsSound goes_on count (record core { last_taken = last })
+into_last : {S : Type 0} {goes_on : S → Type 0} {count since : S → ℕ} {core : ServerCore S} → IsSound goes_on count since core → (last : Option (Cid × ℕ))
+    → IsSound goes_on count since (record core { last_taken = last })
 into_last s last = record { sessions = s.sessions; most = s.most; admitted = s.admitted; connections = s.connections }
 
-module _ {S : Type 0} (goes_on : S → Type 0) (count : S → ℕ) (core : ServerCore S) (i : ℕ) (v : ClientState S)
-    (there : option_map (λ e. e.value) (slice_get (entries_of core.clients) i) ≡ Some v) (counted : 1 ≤ core.events) (h : IsSoundAhead goes_on count core) where
+module _ {S : Type 0} (goes_on : S → Type 0) (count since : S → ℕ) (core : ServerCore S) (i : ℕ) (v : ClientState S)
+    (there : option_map (λ e. e.value) (slice_get (entries_of core.clients) i) ≡ Some v) (counted : 1 ≤ core.events) (h : IsSoundAhead goes_on count since core) where
   -- the session at a place
-  pub sound_at : Goes goes_on count core.events v
+  pub sound_at : Goes goes_on count since core.events core.moment.0 v
   sound_at =
-      value_some (slice_get (entries_of core.clients) i) v (Goes goes_on count core.events) there
+      value_some (slice_get (entries_of core.clients) i) v (Goes goes_on count since core.events core.moment.0) there
       (λ e at.
-      let g = all_at (GoesOn goes_on count (core.events - 1 + 1)) (entries_of core.clients) i e h.sessions at in
-      record { session = g.session; few = omega (arith, counted, g.few) })
+      let g = all_at (GoesOn goes_on count since (core.events - 1 + 1) core.moment.0) (entries_of core.clients) i e h.sessions at in
+      record { session = g.session; few = omega (arith, counted, g.few); past = g.past })
 
-  into : (e : Entry (ClientState S)) → GoesOn goes_on count (core.events - 1 + 1) e → GoesOn goes_on count (core.events + 1) e
-  into e g = record { session = g.session; few = omega (arith, counted, g.few) }
+  into : (e : Entry (ClientState S)) → GoesOn goes_on count since (core.events - 1 + 1) core.moment.0 e → GoesOn goes_on count since (core.events + 1) core.moment.0 e
+  into e g = record { session = g.session; few = omega (arith, counted, g.few); past = g.past }
 
   module _ (w : ClientState S) (ct : ClientTable (ClientState S)) (is : IsChangedAt core i (table.with_value w) ct) where
     -- nothing was done but that a session has made ready
-    pub sound_kept : goes_on w.session → count w.session ≡ count v.session → IsSoundAhead goes_on count (record core { clients = ct })
-    sound_kept goes same = record {
-      sessions = subst (AllByRecursion (GoesOn goes_on count (core.events - 1 + 1))) (sym is.entries_are)
-          (all_changed (GoesOn goes_on count (core.events - 1 + 1)) (GoesOn goes_on count (core.events - 1 + 1)) (table.with_value w) (entries_of core.clients) i (λ e g. g) h.sessions
-          (λ e at. record { session = goes; few = omega (arith, counted, same, sound_at.few) }));
+    pub sound_kept : goes_on w.session → count w.session ≡ count v.session → since w.session ≤ core.moment.0 → IsSoundAhead goes_on count since (record core { clients = ct })
+    sound_kept goes same later = record {
+      sessions = subst (AllByRecursion (GoesOn goes_on count since (core.events - 1 + 1) core.moment.0)) (sym is.entries_are)
+          (all_changed (GoesOn goes_on count since (core.events - 1 + 1) core.moment.0) (GoesOn goes_on count since (core.events - 1 + 1) core.moment.0) (table.with_value w) (entries_of core.clients) i (λ e g. g) h.sessions
+          (λ e at. record { session = goes; few = omega (arith, counted, same, sound_at.few); past = later }));
       most = subst (λ k. k ≤ 4096) (sym is.most_is) h.most;
       admitted = subst (λ k. k ≤ core.events - 1) (sym is.admitted_is) h.admitted;
       connections = h.connections;
     }
 
-    module _ (more : count w.session ≤ count v.session + 1) (k : ℕ) (one : k ≤ 1) where
+    module _ (more : count w.session ≤ count v.session + 1) (later : since w.session ≤ core.moment.0) (k : ℕ) (one : k ≤ 1) where
       abbrev after : ServerCore S
       after = record core { clients = ct; connections = core.connections + k }
 
       admitted_few : (n m : ℕ) → n ≡ m → m ≤ core.events - 1 → n ≤ core.events
       admitted_few n m is few = omega (arith, is, few)
 
-      sound_on : goes_on w.session → IsSound goes_on count after
+      sound_on : goes_on w.session → IsSound goes_on count since after
       sound_on goes = record {
-        sessions = subst (AllByRecursion (GoesOn goes_on count (core.events + 1))) (sym is.entries_are)
-            (all_changed (GoesOn goes_on count (core.events - 1 + 1)) (GoesOn goes_on count (core.events + 1)) (table.with_value w) (entries_of core.clients) i into h.sessions
-            (λ e at. record { session = goes; few = omega (arith, more, sound_at.few) }));
+        sessions = subst (AllByRecursion (GoesOn goes_on count since (core.events + 1) core.moment.0)) (sym is.entries_are)
+            (all_changed (GoesOn goes_on count since (core.events - 1 + 1) core.moment.0) (GoesOn goes_on count since (core.events + 1) core.moment.0) (table.with_value w) (entries_of core.clients) i into h.sessions
+            (λ e at. record { session = goes; few = omega (arith, more, sound_at.few); past = later }));
         most = subst (λ k. k ≤ 4096) (sym is.most_is) h.most;
         admitted = admitted_few (admitted_by ct) (admitted_by core.clients) is.admitted_is h.admitted;
         connections = one_opened core.connections core.events k one counted h.connections;
@@ -115,10 +116,10 @@ module _ {S : Type 0} (goes_on : S → Type 0) (count : S → ℕ) (core : Serve
         is_placed : table.place_of n (entries_of ct) ≡ Some i
         is_placed = ap (table.place_of n) is.entries_are ∙ place_same n w i (entries_of core.clients) ∙ place
 
-        sound_but : IsSoundBut goes_on count n after
+        sound_but : IsSoundBut goes_on count since n after
         sound_but = record {
           sessions = λ j e there apart.
-              into e (all_at (GoesOn goes_on count (core.events - 1 + 1)) (entries_of core.clients) j e h.sessions
+              into e (all_at (GoesOn goes_on count since (core.events - 1 + 1) core.moment.0) (entries_of core.clients) j e h.sessions
               (other_at (table.with_value w) (entries_of core.clients) i j e (subst (λ es. slice_get es j ≡ Some e) is.entries_are there)
               (λ same. apart (is_placed ∙ ap Some same))));
           most = subst (λ k. k ≤ 4096) (sym is.most_is) h.most;
@@ -127,22 +128,22 @@ module _ {S : Type 0} (goes_on : S → Type 0) (count : S → ℕ) (core : Serve
         }
 
     -- a session has answered
-    pub sound_after : (answer : Result Turn Refused) (k : ℕ) (last : Option (Cid × ℕ)) → GoesOnAfter (goes_on w.session) answer → count w.session ≤ count v.session + 1 → k ≤ 1
+    pub sound_after : (answer : Result Turn Refused) (k : ℕ) (last : Option (Cid × ℕ)) → GoesOnAfter (goes_on w.session) answer → count w.session ≤ count v.session + 1 → since w.session ≤ core.moment.0 → k ≤ 1
         → table.place_of core.turn.0 (entries_of core.clients) ≡ Some i
-        → IsSoundAfter goes_on count (record core { clients = ct; connections = core.connections + k; last_taken = last }) answer
-    sound_after (Ok Going) k last goes more one place = into_last (sound_on more k one goes) last
-    sound_after (Ok Ignored) k last goes more one place = into_last (sound_on more k one goes) last
-    sound_after (Ok Named) k last goes more one place = into_last (sound_on more k one goes) last
-    sound_after (Ok Exchange) k last goes more one place = into_last (sound_on more k one goes) last
-    sound_after (Ok (Over cause)) k last goes more one place =
-        let s = sound_but more k one core.turn.0 place in record { sessions = s.sessions; most = s.most; admitted = s.admitted; connections = s.connections }
-    sound_after (Err refused) k last goes more one place = into_last (sound_on more k one goes) last
+        → IsSoundAfter goes_on count since (record core { clients = ct; connections = core.connections + k; last_taken = last }) answer
+    sound_after (Ok Going) k last goes more later one place = into_last (sound_on more later k one goes) last
+    sound_after (Ok Ignored) k last goes more later one place = into_last (sound_on more later k one goes) last
+    sound_after (Ok Named) k last goes more later one place = into_last (sound_on more later k one goes) last
+    sound_after (Ok Exchange) k last goes more later one place = into_last (sound_on more later k one goes) last
+    sound_after (Ok (Over cause)) k last goes more later one place =
+        let s = sound_but more later k one core.turn.0 place in record { sessions = s.sessions; most = s.most; admitted = s.admitted; connections = s.connections }
+    sound_after (Err refused) k last goes more later one place = into_last (sound_on more later k one goes) last
 
 -- what holds before an event is counted, holds when it is
-pub sound_counted : {S : Type 0} (goes_on : S → Type 0) (count : S → ℕ) (core : ServerCore S) → IsSoundAhead goes_on count core → IsSound goes_on count core
-sound_counted goes_on count core h = record {
-  sessions = all_as (GoesOn goes_on count (core.events - 1 + 1)) (GoesOn goes_on count (core.events + 1))
-      (λ e g. record { session = g.session; few = omega (arith, g.few) }) (entries_of core.clients) h.sessions;
+pub sound_counted : {S : Type 0} (goes_on : S → Type 0) (count since : S → ℕ) (core : ServerCore S) → IsSoundAhead goes_on count since core → IsSound goes_on count since core
+sound_counted goes_on count since core h = record {
+  sessions = all_as (GoesOn goes_on count since (core.events - 1 + 1) core.moment.0) (GoesOn goes_on count since (core.events + 1) core.moment.0)
+      (λ e g. record { session = g.session; few = omega (arith, g.few); past = g.past }) (entries_of core.clients) h.sessions;
   most = h.most;
   admitted = omega (arith, h.admitted);
   connections = omega (arith, h.connections);

@@ -24,5 +24,5 @@ HasBytes (Datagram from bytes) n = n ≤ length bytes
 HasBytes kind n = ⊥
 
 -- what holds of every core, before anything is done for an event that counts already
-abbrev pub IsSoundAhead : {S : Type 0} → (S → Type 0) → (S → ℕ) → ServerCore S → Type 0
-IsSoundAhead goes_on count core = IsSound goes_on count (record core { events = core.events - 1 })
+abbrev pub IsSoundAhead : {S : Type 0} → (S → Type 0) → (S → ℕ) → (S → ℕ) → ServerCore S → Type 0
+IsSoundAhead goes_on count since core = IsSound goes_on count since (record core { events = core.events - 1 })

@@ -76,6 +76,7 @@ fn begin<S: ControlSession + Drop>(
     ensures kept { OnErr result (Holds out.new out.old.effects out.old.staged) }
     ensures goes_on { IfOk result (λ b. GoesOnAfter (S.goes_on b.0.session) b.2) }
     ensures count { IfOk result (λ b. S.count b.0.session ≤ 2) }
+    ensures since { IfOk result (λ b. S.since b.0.session ≤ now.0) }
     ensures room { OnOk result (HasRoom out.new 5 39) }
 {
     let effects = out.count();
@@ -113,7 +114,7 @@ fn admit_first<S: ControlSession + Drop>(
     requires short_timeout { core.old.settings.timers.timeout ≤ 60 }
     requires counted { 1 ≤ core.old.events }
     requires few { core.old.events ≤ 2 ^ 48 }
-    requires sound { IsSoundAhead S.goes_on S.count core.old }
+    requires sound { IsSoundAhead S.goes_on S.count S.since core.old }
     requires wrapped { (opened.now.id == 0) ≡ false }
     requires first { (opened.now.first % 8 == 0) ≡ true }
     requires fits { length (entries_of core.old.clients) < most_of core.old.clients }
@@ -124,7 +125,7 @@ fn admit_first<S: ControlSession + Drop>(
         (server.opened_for from c (server.session_begun c.table draw.now)) (server.client_begun c.table from (server.session_begun c.table draw.now).peer) answer) }
     ensures kept { OnErr result ((before : List Action) (c : Course) → CourseStands S.stands before core.old out.old c →
         CourseStands S.stands before core.new out.new c) }
-    ensures sound { MatchResult result (λ answer. IsSoundAfter S.goes_on S.count core.new answer) (λ _. IsSoundAhead S.goes_on S.count core.new) }
+    ensures sound { MatchResult result (λ answer. IsSoundAfter S.goes_on S.count S.since core.new answer) (λ _. IsSoundAhead S.goes_on S.count S.since core.new) }
     ensures turn { OnOk result (core.new.turn.0 ≡ admitted_by core.old.clients) }
     ensures room { OnOk result (HasRoom out.new 5 39) }
 {
@@ -171,7 +172,7 @@ pub fn admit<S: ControlSession + Drop>(
     requires short_timeout { core.old.settings.timers.timeout ≤ 60 }
     requires counted { 1 ≤ core.old.events }
     requires few { core.old.events ≤ 2 ^ 48 }
-    requires sound { IsSoundAhead S.goes_on S.count core.old }
+    requires sound { IsSoundAhead S.goes_on S.count S.since core.old }
     requires wrapped { (opened.now.id == 0) ≡ false }
     requires first { (opened.now.first % 8 == 0) ≡ true }
     requires fits { length (entries_of core.old.clients) < most_of core.old.clients }
@@ -182,7 +183,7 @@ pub fn admit<S: ControlSession + Drop>(
         (server.admitted (record { from = from; bytes = bytes; lacks = lacks }) draw.now (packet_of opened.now view.now) c)) }
     ensures kept { OnErr result ((before : List Action) (c : Course) → CourseStands S.stands before core.old out.old c →
         CourseStands S.stands before core.new out.new c) }
-    ensures sound { MatchResult result (λ _. IsSound S.goes_on S.count core.new) (λ _. IsSoundAhead S.goes_on S.count core.new) }
+    ensures sound { MatchResult result (λ _. IsSound S.goes_on S.count S.since core.new) (λ _. IsSoundAhead S.goes_on S.count S.since core.new) }
 {
     match admit_first(core, alloc, from, draw, kind, opened, view, out) {
         Err(NoMemory) => Err(NoMemory),

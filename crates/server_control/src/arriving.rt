@@ -52,7 +52,7 @@ fn of_nobody<S: ControlSession + Drop>(
     requires short_timeout { core.old.settings.timers.timeout ≤ 60 }
     requires counted { 1 ≤ core.old.events }
     requires few { core.old.events ≤ 2 ^ 48 }
-    requires sound { IsSoundAhead S.goes_on S.count core.old }
+    requires sound { IsSoundAhead S.goes_on S.count S.since core.old }
     requires room { HasRoom out.old 1 0 }
     requires alone { out.old.staged ≡ [] }
     requires mark { core.old.mark ≡ 0 }
@@ -61,7 +61,7 @@ fn of_nobody<S: ControlSession + Drop>(
         (server.of_nobody (record { from = from; bytes = bytes; lacks = lacks }) draw.now (packet_of opened.now view.now) c (server.begins_client op (packet_of opened.now view.now)))) }
     ensures kept { OnErr result ((before : List Action) (c : Course) → CourseStands S.stands before core.old out.old c →
         CourseStands S.stands before core.new out.new c) }
-    ensures sound { MatchResult result (λ _. IsSound S.goes_on S.count core.new) (λ _. IsSoundAhead S.goes_on S.count core.new) }
+    ensures sound { MatchResult result (λ _. IsSound S.goes_on S.count S.since core.new) (λ _. IsSoundAhead S.goes_on S.count S.since core.new) }
 {
     if !begins_client(op, opened, view) {
         core.report(Note::UnknownSession { sid: opened.sid }, out);
@@ -99,7 +99,7 @@ fn find_client<S: ControlSession + Drop>(
     requires short_timeout { core.old.settings.timers.timeout ≤ 60 }
     requires counted { 1 ≤ core.old.events }
     requires few { core.old.events ≤ 2 ^ 48 }
-    requires sound { IsSoundAhead S.goes_on S.count core.old }
+    requires sound { IsSoundAhead S.goes_on S.count S.since core.old }
     requires room { HasRoom out.old 1 0 }
     requires alone { out.old.staged ≡ [] }
     requires mark { core.old.mark ≡ 0 }
@@ -108,7 +108,7 @@ fn find_client<S: ControlSession + Drop>(
         (server.control_at (record { from = from; bytes = bytes; lacks = lacks }) draw.now op (packet_of opened.now view.now) c (by_session c.table from opened.now.sid))) }
     ensures kept { OnErr result ((before : List Action) (c : Course) → CourseStands S.stands before core.old out.old c →
         CourseStands S.stands before core.new out.new c) }
-    ensures sound { MatchResult result (λ _. IsSound S.goes_on S.count core.new) (λ _. IsSoundAhead S.goes_on S.count core.new) }
+    ensures sound { MatchResult result (λ _. IsSound S.goes_on S.count S.since core.new) (λ _. IsSoundAhead S.goes_on S.count S.since core.new) }
 {
     match core.by_session(from, opened.sid) {
         None => of_nobody(core, alloc, from, draw, op, kind, opened, view, out),
@@ -137,7 +137,7 @@ fn read_text<S: ControlSession + Drop>(
     requires short_timeout { core.old.settings.timers.timeout ≤ 60 }
     requires counted { 1 ≤ core.old.events }
     requires few { core.old.events ≤ 2 ^ 48 }
-    requires sound { IsSoundAhead S.goes_on S.count core.old }
+    requires sound { IsSoundAhead S.goes_on S.count S.since core.old }
     requires room { HasRoom out.old 1 0 }
     requires alone { out.old.staged ≡ [] }
     requires mark { core.old.mark ≡ 0 }
@@ -146,7 +146,7 @@ fn read_text<S: ControlSession + Drop>(
         (server.control_read (record { from = from; bytes = bytes; lacks = lacks }) draw.now op (opened_packet opened.now) c (control_of op opened.now.plain.now))) }
     ensures kept { OnErr result ((before : List Action) (c : Course) → CourseStands S.stands before core.old out.old c →
         CourseStands S.stands before core.new out.new c) }
-    ensures sound { MatchResult result (λ _. IsSound S.goes_on S.count core.new) (λ _. IsSoundAhead S.goes_on S.count core.new) }
+    ensures sound { MatchResult result (λ _. IsSound S.goes_on S.count S.since core.new) (λ _. IsSoundAhead S.goes_on S.count S.since core.new) }
 {
     match read_control(opened.plain, op) {
         Err(kind) => {
@@ -192,7 +192,7 @@ fn unwrap_datagram<S: ControlSession + Drop, W: Wrap>(
     requires short_timeout { core.old.settings.timers.timeout ≤ 60 }
     requires counted { 1 ≤ core.old.events }
     requires few { core.old.events ≤ 2 ^ 48 }
-    requires sound { IsSoundAhead S.goes_on S.count core.old }
+    requires sound { IsSoundAhead S.goes_on S.count S.since core.old }
     requires room { HasRoom out.old 1 0 }
     requires alone { out.old.staged ≡ [] }
     requires mark { core.old.mark ≡ 0 }
@@ -201,7 +201,7 @@ fn unwrap_datagram<S: ControlSession + Drop, W: Wrap>(
         (server.control_unwrapped (record { from = from; bytes = datagram.old; lacks = lacks }) draw.now op c (unwrapping (W.unwrapped wrap.now) datagram.old))) }
     ensures kept { OnErr result ((before : List Action) (c : Course) → CourseStands S.stands before core.old out.old c →
         CourseStands S.stands before core.new out.new c) }
-    ensures sound { MatchResult result (λ _. IsSound S.goes_on S.count core.new) (λ _. IsSoundAhead S.goes_on S.count core.new) }
+    ensures sound { MatchResult result (λ _. IsSound S.goes_on S.count S.since core.new) (λ _. IsSoundAhead S.goes_on S.count S.since core.new) }
 {
     let first = first_of(datagram);
     match wrap.unwrap_in_place(datagram) {
@@ -242,7 +242,7 @@ pub fn control_arrived<S: ControlSession + Drop>(
     requires short_timeout { core.old.settings.timers.timeout ≤ 60 }
     requires counted { 1 ≤ core.old.events }
     requires few { core.old.events ≤ 2 ^ 48 }
-    requires sound { IsSoundAhead S.goes_on S.count core.old }
+    requires sound { IsSoundAhead S.goes_on S.count S.since core.old }
     requires room { HasRoom out.old 1 0 }
     requires alone { out.old.staged ≡ [] }
     requires mark { core.old.mark ≡ 0 }
@@ -251,7 +251,7 @@ pub fn control_arrived<S: ControlSession + Drop>(
         (server.control_arrived (record { from = from; bytes = datagram.old; lacks = lacks }) draw.now op c)) }
     ensures kept { OnErr result ((before : List Action) (c : Course) → CourseStands S.stands before core.old out.old c →
         CourseStands S.stands before core.new out.new c) }
-    ensures sound { MatchResult result (λ _. IsSound S.goes_on S.count core.new) (λ _. IsSoundAhead S.goes_on S.count core.new) }
+    ensures sound { MatchResult result (λ _. IsSound S.goes_on S.count S.since core.new) (λ _. IsSoundAhead S.goes_on S.count S.since core.new) }
 {
     let wrapper = Wrapper::new(&core.key, Role::Server);
     unwrap_datagram(core, alloc, from, draw, op, kind, &wrapper, datagram, out)

@@ -37,6 +37,7 @@ fn make_ready<S: ClientSession>(
     ensures same { (p : Peer) → S.stands session.old p → S.stands session.new p }
     ensures goes_on { S.goes_on session.new }
     ensures count { S.count session.new ≡ S.count session.old }
+    ensures since { S.since session.new ≡ S.since session.old }
     ensures outbox { (out.new.effects ≡ out.old.effects) × (out.new.staged ≡ out.old.staged) }
     ensures ready { IfOk result (λ room. S.is_ready session.new kind.now established room.0 room.1) }
     ensures room { IfOk result (λ room. HasRoom out.new (room.0 + 5) (room.1 + 39)) }
@@ -72,6 +73,7 @@ pub(crate) fn take<S: ClientSession>(
     requires wire { HasBytes kind.now (length view.now.payload.now) }
     requires few { S.count client.old.session < 2 ^ 64 - 1 }
     requires goes_on { S.goes_on client.old.session }
+    requires later { S.since client.old.session ≤ now.0 }
     ensures left { (p : Peer) → S.stands client.old.session p →
         LeavesUnless result S.stands client.new.session out.old out.new to p
         (control_came p (incoming opened.now view.now next_conn (is_some client.old.established) now)) }
@@ -80,6 +82,7 @@ pub(crate) fn take<S: ClientSession>(
     ensures state { client.new ≡ heard_after result now client.old client.new.session }
     ensures goes_on { MatchResult result (GoesOnAfter (S.goes_on client.new.session)) (λ _. S.goes_on client.new.session) }
     ensures count { S.count client.new.session ≤ S.count client.old.session + 1 }
+    ensures since { S.since client.new.session ≤ now.0 }
     ensures same_count { OnErr result (S.count client.new.session ≡ S.count client.old.session) }
     ensures room { OnOk result (HasRoom out.new 5 39) }
 {
@@ -150,7 +153,7 @@ fn take_at<S: ControlSession>(
     requires wire { HasBytes kind.now (length view.now.payload.now) }
     requires counted { 1 ≤ core.old.events }
     requires few { core.old.events ≤ 2 ^ 48 }
-    requires sound { IsSoundAhead S.goes_on S.count core.old }
+    requires sound { IsSoundAhead S.goes_on S.count S.since core.old }
     requires place { place_of core.old.turn.0 (entries_of core.old.clients) ≡ Some i }
     requires within { i < length (entries_of core.old.clients) }
     requires address { option_map (λ e. e.key.address) (slice_get (entries_of core.old.clients) i) ≡ Some to }
@@ -159,7 +162,7 @@ fn take_at<S: ControlSession>(
         HasTaken S.stands before core.new out.new core.old.turn.0 (packet_of opened.now view.now) c x answer) }
     ensures kept { OnErr result ((before : List Action) (c : Course) → CourseStands S.stands before core.old out.old c →
         CourseStands S.stands before core.new out.new c) }
-    ensures sound { MatchResult result (λ answer. IsSoundAfter S.goes_on S.count core.new answer) (λ _. IsSoundAhead S.goes_on S.count core.new) }
+    ensures sound { MatchResult result (λ answer. IsSoundAfter S.goes_on S.count S.since core.new answer) (λ _. IsSoundAhead S.goes_on S.count S.since core.new) }
     ensures turn { core.new.turn ≡ core.old.turn }
     ensures room { OnOk result (HasRoom out.new 5 39) }
 {
@@ -205,12 +208,12 @@ pub fn to_client<S: ControlSession + Drop>(
     requires wire { HasBytes kind.now (length view.now.payload.now) }
     requires counted { 1 ≤ core.old.events }
     requires few { core.old.events ≤ 2 ^ 48 }
-    requires sound { IsSoundAhead S.goes_on S.count core.old }
+    requires sound { IsSoundAhead S.goes_on S.count S.since core.old }
     ensures taken { OnOk result ((before : List Action) (c : Course) → CourseStands S.stands before core.old out.old c →
         CourseStands S.stands before core.new out.new (server.to_client (packet_of opened.now view.now) core.old.turn.0 c)) }
     ensures kept { OnErr result ((before : List Action) (c : Course) → CourseStands S.stands before core.old out.old c →
         CourseStands S.stands before core.new out.new c) }
-    ensures sound { MatchResult result (λ _. IsSound S.goes_on S.count core.new) (λ _. IsSoundAhead S.goes_on S.count core.new) }
+    ensures sound { MatchResult result (λ _. IsSound S.goes_on S.count S.since core.new) (λ _. IsSoundAhead S.goes_on S.count S.since core.new) }
 {
     server_state::places_tell_of_clients::<S>();
     let Some(i) = core.clients.place(core.turn) else {

@@ -18,10 +18,10 @@ pub(crate) fn tell<S: ClientSession + Drop>(
     out: &mut Outbox,
 )
     requires room { HasRoom out.old 5 39 }
-    requires sound { IsSoundAfter S.goes_on S.count core.old answer }
+    requires sound { IsSoundAfter S.goes_on S.count S.since core.old answer }
     ensures told { (before : List Action) (c : Course) → CourseStands S.stands before core.old out.old c →
         CourseStands S.stands before core.new out.new (told core.old.turn.0 c answer) }
-    ensures sound { IsSound S.goes_on S.count core.new }
+    ensures sound { IsSound S.goes_on S.count S.since core.new }
 {
     let cid = core.turn;
     match answer {

@@ -54,6 +54,6 @@ pub record HasTaken {S : Type 0} (means : S → Peer → Type 0) (before : List 
       (went n (control_session (incoming r c x) x.session) (acted n x.address (control_came x.session (incoming r c x)) c) answer)
 
 -- what holds of the core after an answer: where the turn is over, the client's session need not go on
-abbrev pub IsSoundAfter : {S : Type 0} → (S → Type 0) → (S → ℕ) → ServerCore S → Result Turn Refused → Type 0
-IsSoundAfter goes_on count core (Ok (Over cause)) = IsSoundBut goes_on count core.turn.0 core
-IsSoundAfter goes_on count core answer = IsSound goes_on count core
+abbrev pub IsSoundAfter : {S : Type 0} → (S → Type 0) → (S → ℕ) → (S → ℕ) → ServerCore S → Result Turn Refused → Type 0
+IsSoundAfter goes_on count since core (Ok (Over cause)) = IsSoundBut goes_on count since core.turn.0 core
+IsSoundAfter goes_on count since core answer = IsSound goes_on count since core

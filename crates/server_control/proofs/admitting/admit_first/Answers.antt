@@ -25,7 +25,7 @@ returns-clause-sound g c =
     let core = c.args.core.now in
     let ct = c.reserve.new.self in
     let b = c.in-Ok-begin.begun in
-    first_sound g.S.ClientSession.goes_on g.S.ClientSession.count (record core { clients = ct }) c.requires.counted
-    (reserved_sound g.S.ClientSession.goes_on g.S.ClientSession.count core ct c.reserve.ensures.same c.requires.sound)
-    (newcomer (admitted_by ct) (free_peer_id (entries_of ct)) c.args.from c.args.opened.now.sid b.0) c.in-Ok-begin.ensures.count c.admit.new.self c.in-Ok-admit.ensures.ok
+    first_sound g.S.ClientSession.goes_on g.S.ClientSession.count g.S.ClientSession.since (record core { clients = ct }) c.requires.counted
+    (reserved_sound g.S.ClientSession.goes_on g.S.ClientSession.count g.S.ClientSession.since core ct c.reserve.ensures.same c.requires.sound)
+    (newcomer (admitted_by ct) (free_peer_id (entries_of ct)) c.args.from c.args.opened.now.sid b.0) c.in-Ok-begin.ensures.count c.in-Ok-begin.ensures.since c.admit.new.self c.in-Ok-admit.ensures.ok
     c.in-Ok-admit.cid c.last_after-core.result b.2 c.in-Ok-begin.ensures.goes_on refl c.in-Ok-admit.ensures.number

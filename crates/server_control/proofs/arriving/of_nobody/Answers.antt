@@ -14,7 +14,7 @@ returns-then-not-has_room-clause-nobody g c before course bytes lacks h =
     (c.report-then-not-has_room.ensures.reported before course h)
 
 pub returns-then-not-has_room-clause-sound : goal.returns-then-not-has_room-clause-sound
-returns-then-not-has_room-clause-sound g c = sound_counted g.S.ClientSession.goes_on g.S.ClientSession.count c.args.core.now c.requires.sound
+returns-then-not-has_room-clause-sound g c = sound_counted g.S.ClientSession.goes_on g.S.ClientSession.count g.S.ClientSession.since c.args.core.now c.requires.sound
 
 pub returns-then-opened-eq0-clause-nobody : goal.returns-then-opened-eq0-clause-nobody
 returns-then-opened-eq0-clause-nobody g c before course bytes lacks h =
@@ -25,7 +25,7 @@ returns-then-opened-eq0-clause-nobody g c before course bytes lacks h =
     (is_zero c.args.opened.now.id c.if-opened-eq0.true) (c.report-then-opened-eq0.ensures.reported before course h)
 
 pub returns-then-opened-eq0-clause-sound : goal.returns-then-opened-eq0-clause-sound
-returns-then-opened-eq0-clause-sound g c = sound_counted g.S.ClientSession.goes_on g.S.ClientSession.count c.args.core.now c.requires.sound
+returns-then-opened-eq0-clause-sound g c = sound_counted g.S.ClientSession.goes_on g.S.ClientSession.count g.S.ClientSession.since c.args.core.now c.requires.sound
 
 pub returns-clause-nobody : goal.returns-clause-nobody
 returns-clause-nobody g c =

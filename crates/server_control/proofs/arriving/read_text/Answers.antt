@@ -13,7 +13,7 @@ find_client-requires-clause-wire g c =
     (payload_fits (control_form c.in-Ok.view) c.in-Ok.ensures.found.rest c.args.opened.now.plain.now c.in-Ok.ensures.found.spelled) c.requires.wire
 
 pub returns-in-Err-clause-sound : goal.returns-in-Err-clause-sound
-returns-in-Err-clause-sound g c = sound_counted g.S.ClientSession.goes_on g.S.ClientSession.count c.args.core.now c.requires.sound
+returns-in-Err-clause-sound g c = sound_counted g.S.ClientSession.goes_on g.S.ClientSession.count g.S.ClientSession.since c.args.core.now c.requires.sound
 
 pub returns-in-Ok-clause-read : goal.returns-in-Ok-clause-read
 returns-in-Ok-clause-read g c =

@@ -21,9 +21,9 @@ returns-in-Err-clause-sound g c =
     let core = c.args.core.now in
     let v = c.value_at.result.now in
     let w = c.take.new.client in
-    sound_kept g.S.ClientSession.goes_on g.S.ClientSession.count core c.args.i v c.value_at.ensures.value c.requires.counted c.requires.sound w
+    sound_kept g.S.ClientSession.goes_on g.S.ClientSession.count g.S.ClientSession.since core c.args.i v c.value_at.ensures.value c.requires.counted c.requires.sound w
     (with_value_at core.clients c.args.i w) (record { entries_are = c.lending_sets_the_value.ensures core.clients c.args.i w; admitted_is = refl; most_is = refl })
-    c.in-Err.ensures.goes_on c.in-Err.ensures.same_count
+    c.in-Err.ensures.goes_on c.in-Err.ensures.same_count c.take.ensures.since
 
 pub returns-in-Ok-clause-taken : goal.returns-in-Ok-clause-taken
 returns-in-Ok-clause-taken g c before course y h at =
@@ -51,6 +51,6 @@ returns-in-Ok-clause-sound g c =
     let core = c.args.core.now in
     let v = c.value_at.result.now in
     let w = c.take.new.client in
-    sound_after g.S.ClientSession.goes_on g.S.ClientSession.count core c.args.i v c.value_at.ensures.value c.requires.counted c.requires.sound w
+    sound_after g.S.ClientSession.goes_on g.S.ClientSession.count g.S.ClientSession.since core c.args.i v c.value_at.ensures.value c.requires.counted c.requires.sound w
     (with_value_at core.clients c.args.i w) (record { entries_are = c.lending_sets_the_value.ensures core.clients c.args.i w; admitted_is = refl; most_is = refl })
-    c.in-Ok.answer c.opened_since.result c.last_after-core.result c.in-Ok.ensures.goes_on c.take.ensures.count c.opened_since.ensures.one c.requires.place
+    c.in-Ok.answer c.opened_since.result c.last_after-core.result c.in-Ok.ensures.goes_on c.take.ensures.count c.take.ensures.since c.opened_since.ensures.one c.requires.place

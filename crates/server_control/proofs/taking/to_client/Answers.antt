@@ -12,7 +12,7 @@ returns-in_default-clause-taken g c before course h =
     (c.places_tell_of_clients.ensures.nobody core course.table core.turn.0 h.table (sym c.place.ensures.place ∙ c.in_default.is)) h
 
 pub returns-in_default-clause-sound : goal.returns-in_default-clause-sound
-returns-in_default-clause-sound g c = sound_counted g.S.ClientSession.goes_on g.S.ClientSession.count c.args.core.now c.requires.sound
+returns-in_default-clause-sound g c = sound_counted g.S.ClientSession.goes_on g.S.ClientSession.count g.S.ClientSession.since c.args.core.now c.requires.sound
 
 pub returns-in-Ok-clause-taken : goal.returns-in-Ok-clause-taken
 returns-in-Ok-clause-taken g c before course h =
