@@ -3,3 +3,4 @@ pub mod Established
 pub mod GivenUp
 pub mod Held
 pub mod Again
+pub mod Replaced

@@ -2,6 +2,7 @@
 #![tactic(auto)]
 
 mod ahead;
+mod establishing;
 mod placing;
 mod preparing;
 mod replacing;
@@ -10,6 +11,7 @@ mod room;
 mod taking;
 
 pub use ahead::{Ahead, LeaseAhead};
+pub use establishing::establish;
 pub use placing::establish_now;
 pub use preparing::{give_up, prepare};
 pub use replacing::replace;

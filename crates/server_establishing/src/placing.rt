@@ -16,6 +16,7 @@ ghost use Rattle.server_state.specs.Core.{CoreStands, CourseStands, IsSound};
 ghost use Rattle.server_establishing.specs.Ahead.{IsAheadOf, bytes_with, effects_with, held_for, lease_bytes, lease_effects, lease_of};
 
 use crate::ahead::{Ahead, LeaseAhead};
+use crate::taking::let_go;
 use ccd_files::Ccd;
 use peer_table::ClientSession;
 use route_table::RouteTable;
@@ -112,9 +113,11 @@ fn establish_at<S: ClientSession + Drop>(
     ensures uses { Uses out.old out.new (lease_effects file.now lease.now) (lease_bytes file.now lease.now) }
     ensures turn { core.new.turn ≡ core.old.turn }
     ensures mark { core.new.mark ≡ core.old.mark }
+    ensures none_held { core.new.held ≡ None }
 {
     server_state::places_tell_of_clients::<S>();
     let Some(i) = core.clients.place(cid) else {
+        let_go(core);
         return;
     };
     let cipher = cipher_at(core, i);
@@ -144,6 +147,7 @@ pub fn establish_now<S: ClientSession + Drop>(
     ensures uses { Uses out.old out.new (effects_with ahead.file ahead.lease) (bytes_with ahead.file ahead.lease) }
     ensures turn_stays { core.new.turn ≡ core.old.turn }
     ensures mark_stays { core.new.mark ≡ core.old.mark }
+    ensures none_held { core.new.held ≡ None }
 {
     let Ahead { name, file, lease } = ahead;
     match lease {
