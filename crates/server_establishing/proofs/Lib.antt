@@ -4,3 +4,4 @@ pub mod GivenUp
 pub mod Held
 pub mod Again
 pub mod Replaced
+pub mod Kept

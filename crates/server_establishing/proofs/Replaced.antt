@@ -50,7 +50,7 @@ stays p x (y ∷ clients) n m first there not =
 
 -- ---- the client that is replaced
 
-none_of : (a b d : Bool) → b ≡ false → (a && b && d) ≡ false
+pub none_of : (a b d : Bool) → b ≡ false → (a && b && d) ≡ false
 none_of true true d is = absurd (false≢true (sym is))
 none_of true false d is = refl
 none_of false b d is = refl

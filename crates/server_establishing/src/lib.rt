@@ -3,6 +3,7 @@
 
 mod ahead;
 mod establishing;
+mod laws;
 mod placing;
 mod preparing;
 mod replacing;
@@ -12,6 +13,7 @@ mod taking;
 
 pub use ahead::{Ahead, LeaseAhead};
 pub use establishing::establish;
+pub use laws::{replies_go_to_the_same_address, what_is_made_stays};
 pub use placing::establish_now;
 pub use preparing::{give_up, prepare};
 pub use replacing::replace;
