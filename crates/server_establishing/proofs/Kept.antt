@@ -5,21 +5,24 @@ use Rattle.std.specs.List.{cons_option}
 use Rattle.std.proofs.lemmas.Bool.{false≢true}
 use Rattle.vpn_base.specs.declared.address.Ip4.{Ip4}
 use Rattle.vpn_base.specs.declared.names.Cause.{Cause}
-use Rattle.vpn_base.specs.declared.names.Cause.TheVariants.{Replaced}
+use Rattle.vpn_base.specs.declared.names.Cause.TheVariants.{PoolEmpty, Replaced}
+use Rattle.vpn_base.specs.declared.names.Conn.{Conn}
 use Rattle.address_pool.specs.LeastFree.{least_free}
 use Rattle.ccd_files.specs.declared.client_file.Ccd.{Ccd}
 use Rattle.ovpn_config.specs.declared.settings.Settings.{Settings}
 use Rattle.peer_table.specs.Places.{changed_at, earlier, first_place}
 use Rattle.server_table.specs.Courses.{Course}
 use Rattle.server_table.specs.Endings.{ended, ended_as, gone}
-use Rattle.server_table.specs.Establishing.{Leased, address_by, first_address, last_address, leased, leased_to, network, replaced, replaced_unless}
+use Rattle.server_table.specs.Establishing.{Leased, address_by, ccd_in, client_established, established_at, established_for, established_with, first_address, last_address, leased, leased_to, network, replaced, replaced_unless, with_address}
 use Rattle.server_table.specs.Lookups.{address_in, cid, client_here, established_named, if_here, is_established_as, taken_addresses}
 use Rattle.server_table.specs.Table.{Client, Established, Table}
 use Rattle.server_establishing.specs.declared.ahead.Ahead.{Ahead}
-use Rattle.server_establishing.specs.Ahead.{IsMadeFor, KeepsPlace, RepliesStand}
+use Rattle.server_texts.specs.Replies.{AreRepliesTo}
+use Rattle.server_establishing.specs.declared.ahead.LeaseAhead.{LeaseAhead}
+use Rattle.server_establishing.specs.Ahead.{IsEstablishedWith, IsMadeFor, KeepsPlace, RepliesStand, lease_of, replies_in}
 use Rattle.server_establishing.proofs.Held.{settings_same}
 use Rattle.server_establishing.proofs.Placed.{client_there, some_is}
-use Rattle.server_establishing.proofs.Replaced.{none_of}
+use Rattle.server_establishing.proofs.Replaced.{ahead_then, here_then, in_order, none_of}
 
 -- ---- the address of the reply
 
@@ -29,7 +32,7 @@ by_free s (Some b) a e is at =
     let first : (b, (network s).len) ≡ a = some_is (b, (network s).len) a is in
     ap (λ k. (k, (network s).len)) (at ∙ sym (ap (λ (a : Leased). a.0) first)) ∙ first
 
-pub leased_again : (t : Table) (own : Option Leased) (a : Leased) (e : Established) → address_by t own ≡ Some a → e.address ≡ a.0 → leased_to t.settings own e ≡ a
+leased_again : (t : Table) (own : Option Leased) (a : Leased) (e : Established) → address_by t own ≡ Some a → e.address ≡ a.0 → leased_to t.settings own e ≡ a
 leased_again t (Some own) a e is at = some_is own a is
 leased_again t None a e is at =
     by_free t.settings (least_free (first_address t.settings) (last_address t.settings) (taken_addresses t)) a e is at
@@ -147,3 +150,49 @@ module _ (c then : Course) (n : ℕ) (g : Client → Client) (x : Client) (there
     replies = λ y here. subst (λ p. RepliesStand then.table.settings file p ahead.lease) (sym (peer_still y here))
         (subst (λ (s : Settings). RepliesStand s file x.peer_id ahead.lease) (sym settings) (made.replies x there));
   }
+
+-- ---- the reply that is written again
+
+module _ (n : ℕ) (conn : Conn) (x : Client) (c : Course) (here : client_here c.table n ≡ Some x) where
+  ended_none : (cause : Cause) → client_here (ended_as n cause c (Some x)).table n ≡ None
+  unfolding client_here
+  ended_none cause = ap if_here (changed_there gone x c.table.clients n (client_there c.table n x here))
+
+  it_ends : (cause : Cause) (y : Client) → client_here (ended n cause c).table n ≡ Some y → ⊥
+  unfolding ended
+  it_ends cause y is =
+      false≢true (ap is_some (sym (ap (λ o. client_here (ended_as n cause c o).table n) here ∙ ended_none cause) ∙ is))
+
+  it_is : (a : Leased) (y : Client) → client_here (established_at n conn x c a).table n ≡ Some y → y ≡ with_address a.0 c.table.moment x
+  unfolding client_here
+  it_is a y is =
+      let g : Client → Client = with_address a.0 c.table.moment in
+      here_is (slice_get (changed_at n g c.table.clients) n) y (g x) (changed_there g x c.table.clients n (client_there c.table n x here)) is
+
+  by_lease : (lease : Option LeaseAhead) (y : Client) → option_map lease_of lease ≡ address_by c.table (ccd_in x.file).address
+      → RepliesStand c.table.settings (ccd_in x.file) x.peer_id lease
+      → client_here (established_with n conn x c (option_map lease_of lease)).table n ≡ Some y
+      → IsEstablishedWith (established_with n conn x c (option_map lease_of lease)).table y (replies_in lease)
+  by_lease None y is replies there = absurd (it_ends PoolEmpty y there)
+  by_lease (Some l) y is replies there =
+      let t = (established_at n conn x c (lease_of l)).table in
+      let e : Established = record { address = l.address; since = c.table.moment } in
+      subst (λ y. IsEstablishedWith t y (Some l.replies)) (sym (it_is (lease_of l) y there))
+      (record {
+        when = e;
+        established = refl;
+        again = subst (λ a. AreRepliesTo c.table.settings (ccd_in x.file) x.peer_id a l.replies)
+            (sym (leased_again c.table (ccd_in x.file).address (lease_of l) e (sym is) refl)) replies;
+      })
+
+pub again_then : (c : Course) (n : ℕ) (conn : Conn) (ahead : Ahead) (x y : Client) → client_here c.table n ≡ Some x → x.established ≡ None
+    → x.session.name ≡ Some ahead.name → ccd_in x.file ≡ ahead.file → IsMadeFor c n ahead.name ahead.file ahead
+    → client_here (client_established n conn c).table n ≡ Some y → IsEstablishedWith (client_established n conn c).table y (replies_in ahead.lease)
+again_then c n conn ahead x y there none named file made is =
+    let then = replaced_unless n ahead.name c c.table.settings.duplicate in
+    let here = here_then n ahead.name c x there none in
+    let of = ahead_then n ahead.name c x there none ahead named refl file made in
+    let same : established_with n conn x then (option_map lease_of ahead.lease) ≡ client_established n conn c =
+    ap (established_with n conn x then) of.lease ∙ sym (ap (established_for n conn then) here) ∙ in_order n ahead.name c x there none conn named in
+    subst (λ (c : Course). IsEstablishedWith c.table y (replies_in ahead.lease)) same
+    (by_lease n conn x then here ahead.lease y of.lease of.replies (ap (λ (c : Course). client_here c.table n) same ∙ is))

@@ -73,3 +73,9 @@ pub record KeepsPlace (g : Client → Client) : Type 0 where
   pub here : (y : Client) → (g y).is_here ≡ y.is_here
   pub established : (y : Client) → (g y).established ≡ y.established
   pub peer_id : (y : Client) → (g y).peer_id ≡ y.peer_id
+
+-- a client is established, and these replies are the one that it got
+pub record IsEstablishedWith (t : Table) (x : Client) (replies : Option Replies) : Type 0 where
+  pub when : Established
+  pub established : x.established ≡ Some when
+  pub again : StandsAgain t x when replies

@@ -13,7 +13,7 @@ mod taking;
 
 pub use ahead::{Ahead, LeaseAhead};
 pub use establishing::establish;
-pub use laws::{replies_go_to_the_same_address, what_is_made_stays};
+pub use laws::{the_same_reply_is_written_again, what_is_made_stays};
 pub use placing::establish_now;
 pub use preparing::{give_up, prepare};
 pub use replacing::replace;
