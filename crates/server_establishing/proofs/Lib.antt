@@ -5,3 +5,4 @@ pub mod Held
 pub mod Again
 pub mod Replaced
 pub mod Kept
+pub mod Asked

@@ -1,2 +1,4 @@
 pub mod Ahead
 pub mod Taking
+pub mod Prepared
+pub mod Asking

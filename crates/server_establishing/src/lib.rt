@@ -2,6 +2,7 @@
 #![tactic(auto)]
 
 mod ahead;
+mod asking;
 mod establishing;
 mod laws;
 mod placing;
@@ -12,6 +13,7 @@ mod room;
 mod taking;
 
 pub use ahead::{Ahead, LeaseAhead};
+pub use asking::{Prepared, answer_request, establish_as_asked};
 pub use establishing::establish;
 pub use laws::{the_same_reply_is_written_again, what_is_made_stays};
 pub use placing::establish_now;
