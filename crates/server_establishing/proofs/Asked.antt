@@ -1,16 +1,13 @@
 -- A client asks for its options.
-use Rattle.std.proofs.Common.{◌≡◌, ℕ, ◌&&◌, Bool, true, false, slice_get, option_map, Option, Some, None, refl, sym, ap, subst, ◌∙◌}
+use Rattle.std.proofs.Common.{◌≡◌, ℕ, ◌&&◌, Bool, true, false, Option, Some, None, refl, ap, ◌∙◌}
 use Rattle.std.specs.Prelude.{is_none}
 use Rattle.vpn_base.specs.declared.names.Conn.{Conn}
-use Rattle.client_table.specs.Tables.{entries_of}
-use Rattle.peer_table.specs.Peer.{Peer}
 use Rattle.server_table.specs.Courses.{Course}
-use Rattle.server_table.specs.Exchange.{established_as_asked, established_if, established_on, requested_as}
-use Rattle.server_table.specs.Lookups.{client_here}
-use Rattle.server_table.specs.Table.{Client, Established, Table}
+use Rattle.server_table.specs.Exchange.{established_as_asked, established_if, established_on}
+use Rattle.server_table.specs.Table.{Client, Established}
 use Rattle.server_texts.specs.Replies.{Replies}
 use Rattle.server_establishing.specs.Ahead.{IsEstablishedWith}
-use Rattle.server_establishing.specs.Asking.{asked_on, prepared_after}
+use Rattle.server_establishing.specs.internal.Asking.{asked_on, prepared_after}
 use Rattle.server_establishing.specs.Prepared.{IsPrepared}
 
 -- what follows the establishing

@@ -1,5 +1,5 @@
 -- What was made ahead stays right where only its client is changed.
-use Rattle.std.proofs.Common.{◌≡◌, ℕ, zero, suc, ◌&&◌, Bool, true, false, cond, List, [], ◌∷◌, slice_get, option_map, Option, Some, None, refl, sym, ap, subst, ◌∙◌}
+use Rattle.std.proofs.Common.{◌≡◌, ℕ, zero, suc, Bool, true, false, cond, List, [], ◌∷◌, slice_get, option_map, Option, Some, None, refl, sym, ap, subst, ◌∙◌}
 use Rattle.std.specs.Prelude.{filter_map, is_some, unwrap_or}
 use Rattle.std.specs.List.{cons_option}
 use Rattle.std.proofs.lemmas.Bool.{false≢true}
@@ -118,7 +118,7 @@ module _ (c then : Course) (n : ℕ) (g : Client → Client) (x : Client) (there
       ap (first_place (is_established_as name)) clients
       ∙ first_same (is_established_as name) g x c.table.clients n (client_there c.table n x there)
       (none_of (g x).is_here (is_some (g x).established) _ (ap is_some (keeps.established x ∙ none))
-        ∙ sym (none_of x.is_here (is_some x.established) _ (ap is_some none)))
+      ∙ sym (none_of x.is_here (is_some x.established) _ (ap is_some none)))
 
   taken_unless : (name : List ℕ) (b : Bool) → taken_addresses (replaced_unless n name then b).table ≡ taken_addresses (replaced_unless n name c b).table
   unfolding taken_addresses
@@ -138,7 +138,7 @@ module _ (c then : Course) (n : ℕ) (g : Client → Client) (x : Client) (there
   unfolding client_here
   peer_still y here =
       ap (λ (y : Client). y.peer_id) (here_is (slice_get then.table.clients n) y (g x)
-        (ap (λ (l : List Client). slice_get l n) clients ∙ changed_there g x c.table.clients n (client_there c.table n x there)) here)
+      (ap (λ (l : List Client). slice_get l n) clients ∙ changed_there g x c.table.clients n (client_there c.table n x there)) here)
       ∙ keeps.peer_id x
 
   pub made_then : (name : List ℕ) (file : Ccd) (ahead : Ahead) → IsMadeFor c n name file ahead → IsMadeFor then n name file ahead

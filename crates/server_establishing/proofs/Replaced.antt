@@ -10,9 +10,9 @@ use Rattle.ovpn_config.specs.declared.settings.Settings.{Settings}
 use Rattle.peer_table.specs.Places.{changed_at, earlier, first_place}
 use Rattle.server_table.specs.Courses.{Course}
 use Rattle.server_table.specs.Endings.{ended, ended_as, gone}
-use Rattle.server_table.specs.Establishing.{address_by, ccd_in, client_established, established_now, establishing, name_in, replaced, replaced_unless}
+use Rattle.server_table.specs.Establishing.{address_by, ccd_in, client_established, established_now, establishing, replaced, replaced_unless}
 use Rattle.server_table.specs.Lookups.{cid, client_here, established_named, if_here, is_established_as}
-use Rattle.server_table.specs.Table.{Client, Established}
+use Rattle.server_table.specs.Table.{Client}
 use Rattle.server_establishing.specs.declared.ahead.Ahead.{Ahead}
 use Rattle.server_establishing.specs.Ahead.{IsAheadOf, IsMadeFor, RepliesStand}
 use Rattle.server_establishing.proofs.Held.{settings_same}

@@ -1,4 +1,3 @@
 pub mod Ahead
-pub mod Taking
 pub mod Prepared
-pub mod Asking
+pub mod internal

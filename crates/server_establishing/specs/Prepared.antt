@@ -1,10 +1,9 @@
 -- What is prepared for a client in a step: to establish it, or to write the same reply again.
-use Rattle.std.specs.Prelude.{◌≡◌, ℕ, ◌+◌, ◌≤◌, length, Option, Some, None}
-use Rattle.ccd_files.specs.declared.client_file.Ccd.{Ccd}
+use Rattle.std.specs.Prelude.{◌≡◌, ℕ, ◌+◌, ◌≤◌, length, Some, None}
 use Rattle.server_table.specs.Courses.{Course}
 use Rattle.server_table.specs.Establishing.{ccd_in}
 use Rattle.server_table.specs.Table.{Client}
-use Rattle.server_texts.specs.Replies.{Replies, reply_bytes, reply_effects}
+use Rattle.server_texts.specs.Replies.{reply_bytes, reply_effects}
 use Rattle.server_state.specs.declared.state.ServerCore.{ServerCore}
 use Rattle.server_establishing.specs.declared.ahead.Ahead.{Ahead}
 use Rattle.server_establishing.specs.declared.asking.Prepared.{Prepared}

@@ -1,6 +1,6 @@
 //! A client asks for its options.
 
-ghost use Rattle.std.specs.Prelude.{◌≡◌, ◌+◌, List, Some};
+ghost use Rattle.std.specs.Prelude.{◌≡◌, ◌+◌, List, Some, IfOk};
 ghost use Rattle.vpn_links.specs.Actions.{Action};
 ghost use Rattle.peer_table.specs.Outboxes.{HasRoom, Uses};
 ghost use Rattle.server_table.specs.Courses.{Course};
@@ -9,7 +9,7 @@ ghost use Rattle.server_table.specs.Exchange.{established_as_asked, requested};
 ghost use Rattle.server_table.specs.Lookups.{client_here};
 ghost use Rattle.server_table.specs.Table.{Client, Table};
 ghost use Rattle.server_state.specs.Core.{CoreStands, CourseStands, IsSound};
-ghost use Rattle.server_establishing.specs.Asking.{asked_on, prepared_after};
+ghost use Rattle.server_establishing.specs.internal.Asking.{asked_on, prepared_after};
 ghost use Rattle.server_establishing.specs.Prepared.{IsAwaited, IsKept, IsKeptFor, IsPrepared, prepared_bytes, prepared_effects};
 ghost use Rattle.server_establishing.specs.Ahead.{bytes_with, effects_with};
 
@@ -19,7 +19,7 @@ use crate::replying::reply_again;
 use peer_table::ClientSession;
 use server_state::ServerCore;
 use server_texts::ReplyAhead;
-use vpn_base::{Cid, Conn};
+use vpn_base::{Cid, Conn, NoMemory};
 use vpn_links::Outbox;
 
 /// What is prepared in a step for a client that may ask for its options.
@@ -31,6 +31,21 @@ pub enum Prepared {
     Again(ReplyAhead),
     /// It is not here.
     Nothing,
+}
+
+impl Prepared {
+    /// How many effects and bytes an outbox takes at most of it. Want of memory is only where they pass every
+    /// number.
+    pub fn room(&self) -> Result<(usize, usize), NoMemory>
+        ensures effects { IfOk result (λ r. r.0 ≡ prepared_effects self.now) }
+        ensures bytes { IfOk result (λ r. r.1 ≡ prepared_bytes self.now) }
+    {
+        match self {
+            Prepared::New(ahead) => ahead.room(),
+            Prepared::Again(replies) => Ok(replies.room()),
+            Prepared::Nothing => Ok((0, 0)),
+        }
+    }
 }
 
 fn prepared_after(replies: Option<ReplyAhead>) -> Prepared

@@ -20,4 +20,3 @@ pub use placing::establish_now;
 pub use preparing::{give_up, prepare};
 pub use replacing::replace;
 pub use replying::{prepare_again, reply_again};
-

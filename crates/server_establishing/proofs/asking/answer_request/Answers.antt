@@ -1,4 +1,4 @@
-use Rattle.std.proofs.Common.{Some, sym, ap, subst, ◌∙◌}
+use Rattle.std.proofs.Common.{sym, ap, subst, ◌∙◌}
 use Rattle.server_table.specs.Exchange.{requested_as}
 use Rattle.server_table.specs.Lookups.{client_here}
 use Rattle.server_state.specs.Core.{CourseStands}
@@ -16,7 +16,7 @@ returns-in-New-clause-prepared g c course x y there prepared is =
     let of = subst (IsPrepared course c.args.cid.0 x) c.in-New.is prepared in
     subst (λ o. IsPrepared (requested_as c.args.cid.0 c.args.conn x course o) c.args.cid.0 y c.establish_new.result) (sym of.not_yet)
     (c.establish_new.ensures.prepared course x y there of
-      (ap (λ o. client_here (requested_as c.args.cid.0 c.args.conn x course o).table c.args.cid.0) (sym of.not_yet) ∙ is))
+    (ap (λ o. client_here (requested_as c.args.cid.0 c.args.conn x course o).table c.args.cid.0) (sym of.not_yet) ∙ is))
 
 pub returns-in-Again-clause-requested : goal.returns-in-Again-clause-requested
 returns-in-Again-clause-requested g c before course x h there prepared =

@@ -1,5 +1,5 @@
 use Rattle.std.proofs.Common.{sym, ap, ◌∙◌}
-use Rattle.server_establishing.specs.Asking.{asked_on}
+use Rattle.server_establishing.specs.internal.Asking.{asked_on}
 use Rattle.server_establishing.proofs.Again.{stands_for}
 use Rattle.server_establishing.proofs.asking.asked_on.Goals as goal
 

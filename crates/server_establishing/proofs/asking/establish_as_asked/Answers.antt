@@ -1,7 +1,6 @@
 use Rattle.std.proofs.Common.{None, Some, sym, ap, subst, ◌∙◌}
 use Rattle.server_table.specs.Courses.{Course}
 use Rattle.server_table.specs.Lookups.{client_here}
-use Rattle.server_table.specs.Table.{Client}
 use Rattle.server_state.specs.Core.{CourseStands}
 use Rattle.server_establishing.specs.Prepared.{IsAwaited, IsPrepared}
 use Rattle.server_establishing.proofs.Asked.{as_asked}
