@@ -3,3 +3,5 @@ pub mod Established
 pub mod GivenUp
 pub mod Held
 pub mod Again
+pub mod Replaced
+pub mod Kept
