@@ -1,5 +1,5 @@
 -- The reply once more.
-use Rattle.std.proofs.Common.{◌≡◌, ℕ, List, ◌++◌, slice_get, option_map, Option, Some, None, sym, ap, subst, ◌∙◌}
+use Rattle.std.proofs.Common.{◌≡◌, ℕ, List, ◌++◌, slice_get, option_map, Some, None, sym, ap, subst, ◌∙◌}
 use Rattle.std.specs.Prelude.{is_some}
 use Rattle.std.proofs.lemmas.Bool.{false≢true}
 use Rattle.std.proofs.lemmas.List.{append_assoc}
@@ -59,4 +59,4 @@ pub again_is : (s : Settings) (file : Ccd) (peer_id : ℕ) (e : Established) (r 
 again_is s file peer_id e r t x settings files peer h =
     subst (λ s. AreRepliesTo s (ccd_in x.file) x.peer_id (leased_to s (ccd_in x.file).address e) r) settings
     (subst (λ (file : Ccd). AreRepliesTo s file x.peer_id (leased_to s file.address e) r) files
-      (subst (λ p. AreRepliesTo s file p (leased_to s file.address e) r) peer h))
+    (subst (λ p. AreRepliesTo s file p (leased_to s file.address e) r) peer h))

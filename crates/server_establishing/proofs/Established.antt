@@ -1,7 +1,6 @@
 -- What establishing a client leaves.
-use Rattle.std.proofs.Common.{◌≡◌, ℕ, List, [], ◌∷◌, ◌++◌, map, Option, Some, None, option_map, length, slice_get, refl, sym, ap, subst, ◌∙◌}
+use Rattle.std.proofs.Common.{◌≡◌, ℕ, List, ◌∷◌, ◌++◌, sym, ap, subst, ◌∙◌}
 use Rattle.std.proofs.lemmas.List.{append_assoc}
-use Rattle.vpn_base.specs.declared.address.Ip4.{Ip4}
 use Rattle.vpn_base.specs.declared.names.Conn.{Conn}
 use Rattle.vpn_links.specs.Actions.{Action, Contents, Datagram, Holds}
 use Rattle.ccd_files.specs.declared.client_file.Ccd.{Ccd}
@@ -9,7 +8,7 @@ use Rattle.route_table.specs.Learned as routes
 use Rattle.route_table.specs.Owner.{Row}
 use Rattle.route_table.specs.Learned.{rows_of, table_of, with_rows}
 use Rattle.peer_table.specs.Peer.{Peer}
-use Rattle.server_table.specs.Courses.{Course, Staged, with_client}
+use Rattle.server_table.specs.Courses.{Course, with_client}
 use Rattle.server_table.specs.Establishing.{Leased, ccd_in, established_at, establishing_lines, host_route, networks_of, reply, with_address}
 use Rattle.server_table.specs.Lookups.{cid}
 use Rattle.server_table.specs.Table.{Client, Table}

@@ -1,24 +1,23 @@
 -- The address that a client gives up.
-use Rattle.std.proofs.Common.{◌≡◌, ℕ, zero, suc, true, false, cond, List, [], ◌∷◌, ◌++◌, slice_get, option_map, Option, Some, None, refl, sym, ap, subst, ◌∙◌}
+use Rattle.std.proofs.Common.{◌≡◌, ℕ, zero, suc, true, cond, List, [], ◌∷◌, slice_get, option_map, Option, Some, None, refl, sym, ap, subst, ◌∙◌}
 use Rattle.std.specs.Prelude.{filter_map, is_some, unwrap_or}
 use Rattle.std.specs.List.{cons_option}
 use Rattle.std.proofs.lemmas.Bool.{false≢true}
 use Rattle.vpn_base.specs.declared.address.Ip4.{Ip4}
 use Rattle.vpn_base.specs.declared.names.Cause.{Cause}
 use Rattle.vpn_base.specs.declared.names.Moment.{Moment}
-use Rattle.client_table.specs.Changes as table
 use Rattle.client_table.specs.Tables.{entries_of}
 use Rattle.peer_table.specs.Peer.{Peer}
 use Rattle.peer_table.specs.Places.{changed_at}
 use Rattle.server_table.specs.Courses.{Course}
 use Rattle.server_table.specs.Endings.{ended, ended_as, gone}
 use Rattle.server_table.specs.Lookups.{address_in, client_here, taken_addresses}
-use Rattle.server_table.specs.Table.{Client, Established, Table}
+use Rattle.server_table.specs.Table.{Client, Established}
 use Rattle.server_state.specs.declared.client.ClientState.{ClientState}
 use Rattle.server_state.specs.declared.state.ServerCore.{ServerCore}
-use Rattle.server_state.specs.Core.{CoreStands, established_at}
+use Rattle.server_state.specs.Core.{established_at}
 use Rattle.server_state.specs.Places.{IsThere}
-use Rattle.server_establishing.specs.Taking.{GivesUp, IsGivenUp}
+use Rattle.server_establishing.specs.internal.Taking.{GivesUp, IsGivenUp}
 use Rattle.server_establishing.proofs.Placed.{client_there}
 
 behind_another : (a : Ip4) (o : Option Ip4) (was left : List Ip4) → IsGivenUp a was left → IsGivenUp a (cons_option o was) (cons_option o left)

@@ -1,5 +1,5 @@
 -- An address that is held for a client.
-use Rattle.std.proofs.Common.{◌≡◌, ℕ, Bool, true, false, List, [], ◌∷◌, ◌++◌, option_map, Option, Some, None, refl, sym, ap, subst, ◌∙◌}
+use Rattle.std.proofs.Common.{◌≡◌, ℕ, Bool, true, false, List, [], ◌∷◌, ◌++◌, Option, Some, None, refl, sym, ap, subst, ◌∙◌}
 use Rattle.std.specs.Prelude.{filter_map}
 use Rattle.vpn_base.specs.declared.address.Ip4.{Ip4}
 use Rattle.vpn_base.specs.declared.names.Cause.{Cause}
@@ -13,12 +13,12 @@ use Rattle.route_table.specs.Learned.{table_of}
 use Rattle.peer_table.specs.Peer.{Peer}
 use Rattle.server_table.specs.Courses.{Course}
 use Rattle.server_table.specs.Endings.{ended, ended_as}
-use Rattle.server_table.specs.Establishing.{Leased, address_by, first_address, last_address, leased, replaced, replaced_unless}
+use Rattle.server_table.specs.Establishing.{address_by, first_address, last_address, leased, replaced, replaced_unless}
 use Rattle.server_table.specs.Lookups.{address_in, cid, client_here, established_named, taken_addresses}
 use Rattle.server_table.specs.Table.{Client, Table}
 use Rattle.server_state.specs.declared.state.ServerCore.{ServerCore}
 use Rattle.server_state.specs.Core.{CoreStands, with_held}
-use Rattle.server_establishing.specs.Taking.{GivesUp, Takes}
+use Rattle.server_establishing.specs.internal.Taking.{GivesUp, Takes}
 
 -- the takings of a pool for a table
 abbrev pub takings : Table → List Ip4 → Takings
@@ -89,7 +89,7 @@ module _ {S : Type 0} (means : S → Peer → Type 0) (core : ServerCore S) wher
   back_stands t p a h is back =
       with_pool t p None h
       (back (takings t (a ∷ filter_map address_in t.clients)) [] (filter_map address_in t.clients)
-        (subst (λ o. Holds core.pool (takings t (with_held o (filter_map address_in t.clients)))) is h.pool) refl)
+      (subst (λ o. Holds core.pool (takings t (with_held o (filter_map address_in t.clients)))) is h.pool) refl)
 
   -- the least address that is free when whoever is replaced has ended
   pub least_is : (n : ℕ) (name : List ℕ) (c : Course) (o given : Option Ip4) → CoreStands means core c.table → core.held ≡ None

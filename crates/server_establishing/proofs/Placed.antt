@@ -1,9 +1,8 @@
 -- A client has an address in the tunnel.
-use Rattle.std.proofs.Common.{◌≡◌, ℕ, zero, suc, ◌+◌, ◌<◌, ◌≤◌, ◌==◌, Bool, true, false, cond, List, [], ◌∷◌, ◌++◌, length, slice_get, map, option_map, Option, Some, None, refl, sym, ap, subst, ◌∙◌, arith}
+use Rattle.std.proofs.Common.{◌≡◌, ℕ, zero, suc, ◌+◌, ◌<◌, ◌≤◌, ◌==◌, Bool, true, false, cond, List, [], ◌∷◌, length, slice_get, option_map, Option, Some, None, refl, sym, ap, subst, ◌∙◌, arith}
 use Rattle.std.specs.Prelude.{filter_map, is_some, unwrap_or, count_by}
 use Rattle.std.specs.List.{AllByRecursion, cons_option}
 use Rattle.std.proofs.lemmas.Bool.{false≢true}
-use Rattle.std.proofs.lemmas.List.{append_assoc}
 use Rattle.std.proofs.lemmas.List.Sums.{sum_by-cons}
 use Rattle.vpn_base.specs.declared.address.Ip4.{Ip4}
 use Rattle.vpn_base.specs.declared.names.Moment.{Moment}
@@ -16,7 +15,7 @@ use Rattle.client_table.specs.Tables.{admitted_by, entries_of, most_of}
 use Rattle.peer_table.specs.Peer.{Peer}
 use Rattle.peer_table.specs.Places.{changed_at}
 use Rattle.server_table.specs.Courses.{with_client}
-use Rattle.server_table.specs.Establishing.{first_address, last_address, with_address}
+use Rattle.server_table.specs.Establishing.{with_address}
 use Rattle.server_table.specs.Lookups.{address_in, client_here, if_here}
 use Rattle.server_table.specs.Table.{Client, Established, Table}
 use Rattle.server_state.specs.declared.client.ClientState.{ClientState}
@@ -192,12 +191,11 @@ module _ {S : Type 0} (means : S → Peer → Type 0) (core : ServerCore S) (m i
     sessions = subst (AllByRecursion (GoesOn goes_on count since (core.events + 1) core.moment.0)) (sym is)
         (all_changed (GoesOn goes_on count since (core.events + 1) core.moment.0) change (entries_of core.clients) i h.sessions
         (λ e at goes.
-          let value_is : e.value ≡ v = ap (λ o. unwrap_or o v) (sym (ap (λ o. option_map (λ e. e.value) o) at) ∙ value) in
-          record {
-            session = subst (λ (v : ClientState S). goes_on v.session) value_is goes.session;
-            few = subst (λ (v : ClientState S). count v.session ≤ core.events + 1) value_is goes.few;
-            past = subst (λ (v : ClientState S). since v.session ≤ core.moment.0) value_is goes.past;
-          }));
+        let value_is : e.value ≡ v = ap (λ o. unwrap_or o v) (sym (ap (λ o. option_map (λ e. e.value) o) at) ∙ value) in
+        record {
+          session = subst (λ (v : ClientState S). goes_on v.session) value_is goes.session;
+          few = subst (λ (v : ClientState S). count v.session ≤ core.events + 1) value_is goes.few;
+        }));
     most = subst (λ k. k ≤ 4096) (sym most) h.most;
     admitted = subst (λ k. k ≤ core.events) (sym admitted) h.admitted;
     connections = h.connections;

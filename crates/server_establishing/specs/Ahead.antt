@@ -20,6 +20,10 @@ lease_of l = (l.address, l.len)
 abbrev pub held_for : Option LeaseAhead → Option Ip4
 held_for lease = option_map (λ (l : LeaseAhead). l.address) lease
 
+-- its replies
+abbrev pub replies_in : Option LeaseAhead → Option Replies
+replies_in lease = option_map (λ (l : LeaseAhead). l.replies) lease
+
 -- the replies are those to a client of this file and peer id
 abbrev pub RepliesStand : Settings → Ccd → ℕ → Option LeaseAhead → Type 0
 RepliesStand s file peer_id None = Unit {0}
@@ -63,3 +67,15 @@ pub record IsMadeFor (c : Course) (n : ℕ) (name : List ℕ) (file : Ccd) (ahea
 abbrev pub StandsAgain : Table → Client → Established → Option Replies → Type 0
 StandsAgain t x e None = ⊥
 StandsAgain t x e (Some r) = AreRepliesTo t.settings (ccd_in x.file) x.peer_id (leased_to t.settings (ccd_in x.file).address e) r
+
+-- a change of a client that leaves whether it is here, its address in the tunnel and its peer id
+pub record KeepsPlace (g : Client → Client) : Type 0 where
+  pub here : (y : Client) → (g y).is_here ≡ y.is_here
+  pub established : (y : Client) → (g y).established ≡ y.established
+  pub peer_id : (y : Client) → (g y).peer_id ≡ y.peer_id
+
+-- a client is established, and these replies are the one that it got
+pub record IsEstablishedWith (t : Table) (x : Client) (replies : Option Replies) : Type 0 where
+  pub when : Established
+  pub established : x.established ≡ Some when
+  pub again : StandsAgain t x when replies

@@ -1,2 +1,3 @@
 pub mod Ahead
-pub mod Taking
+pub mod Prepared
+pub mod internal

@@ -2,6 +2,9 @@
 #![tactic(auto)]
 
 mod ahead;
+mod asking;
+mod establishing;
+mod laws;
 mod placing;
 mod preparing;
 mod replacing;
@@ -10,8 +13,10 @@ mod room;
 mod taking;
 
 pub use ahead::{Ahead, LeaseAhead};
+pub use asking::{Prepared, answer_request, establish_as_asked};
+pub use establishing::establish;
+pub use laws::{the_same_reply_is_written_again, what_is_made_stays};
 pub use placing::establish_now;
 pub use preparing::{give_up, prepare};
 pub use replacing::replace;
 pub use replying::{prepare_again, reply_again};
-

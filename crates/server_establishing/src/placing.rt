@@ -13,14 +13,15 @@ ghost use Rattle.server_table.specs.Table.{Client, Table};
 ghost use Rattle.server_texts.specs.Replies.{AreRepliesTo};
 ghost use Rattle.server_state.specs.declared.client.ClientState.{ClientState};
 ghost use Rattle.server_state.specs.Core.{CoreStands, CourseStands, IsSound};
-ghost use Rattle.server_establishing.specs.Ahead.{IsAheadOf, bytes_with, effects_with, held_for, lease_bytes, lease_effects, lease_of};
+ghost use Rattle.server_establishing.specs.Ahead.{IsAheadOf, bytes_with, effects_with, held_for, lease_bytes, lease_effects, lease_of, replies_in};
 
 use crate::ahead::{Ahead, LeaseAhead};
+use crate::taking::let_go;
 use ccd_files::Ccd;
 use peer_table::ClientSession;
 use route_table::RouteTable;
 use server_state::{ClientState, ServerCore};
-use server_texts::say_establishing;
+use server_texts::{ReplyAhead, say_establishing};
 use vpn_base::{Cause, Cid, Cipher, Conn, Ip4, Moment, Prefix, Text};
 use vpn_links::Outbox;
 
@@ -112,9 +113,11 @@ fn establish_at<S: ClientSession + Drop>(
     ensures uses { Uses out.old out.new (lease_effects file.now lease.now) (lease_bytes file.now lease.now) }
     ensures turn { core.new.turn ≡ core.old.turn }
     ensures mark { core.new.mark ≡ core.old.mark }
+    ensures none_held { core.new.held ≡ None }
 {
     server_state::places_tell_of_clients::<S>();
     let Some(i) = core.clients.place(cid) else {
+        let_go(core);
         return;
     };
     let cipher = cipher_at(core, i);
@@ -125,15 +128,15 @@ fn establish_at<S: ClientSession + Drop>(
 }
 
 /// Establishes a client, which is here and has nobody to replace any more, with what was made ahead for it: it
-/// gets its address, its rows and the reply, and a manager is told. With no address left it ends. It takes no
-/// memory.
+/// gets its address, its rows and the reply, and a manager is told. With no address left it ends. The answer is
+/// the reply, which may have to be written again. It takes no memory.
 pub fn establish_now<S: ClientSession + Drop>(
     core: &mut ServerCore<S>,
     cid: Cid,
     conn: Conn,
     ahead: Ahead,
     out: &mut Outbox,
-)
+) -> Option<ReplyAhead>
     requires held { core.old.held ≡ held_for ahead.lease }
     requires rows { 1 + length ahead.file.iroutes ≤ core.old.routes.spare_rows }
     requires room { HasRoom out.old (effects_with ahead.file ahead.lease) (bytes_with ahead.file ahead.lease) }
@@ -144,10 +147,18 @@ pub fn establish_now<S: ClientSession + Drop>(
     ensures uses { Uses out.old out.new (effects_with ahead.file ahead.lease) (bytes_with ahead.file ahead.lease) }
     ensures turn_stays { core.new.turn ≡ core.old.turn }
     ensures mark_stays { core.new.mark ≡ core.old.mark }
+    ensures none_held { core.new.held ≡ None }
+    ensures replies { result ≡ replies_in ahead.lease }
 {
     let Ahead { name, file, lease } = ahead;
     match lease {
-        None => core.end(cid, Cause::PoolEmpty, out),
-        Some(lease) => establish_at(core, cid, conn, name, &file, &lease, out),
+        None => {
+            core.end(cid, Cause::PoolEmpty, out);
+            None
+        }
+        Some(lease) => {
+            establish_at(core, cid, conn, name, &file, &lease, out);
+            Some(lease.replies)
+        }
     }
 }

@@ -1,12 +1,13 @@
 //! What is made ahead for a client that may be established.
 
-ghost use Rattle.std.specs.Prelude.{◌≡◌, ◌+◌, ◌≤◌, Some, None, length, option_map, IfOk, OnOk, OnErr};
+ghost use Rattle.std.specs.Prelude.{◌≡◌, ◌+◌, ◌≤◌, List, Some, None, length, option_map, IfOk, OnOk, OnErr};
+ghost use Rattle.vpn_links.specs.Actions.{Action, Contents};
 ghost use Rattle.route_table.specs.Learned.{table_of};
 ghost use Rattle.server_table.specs.Courses.{Course};
 ghost use Rattle.server_table.specs.Establishing.{address_by, replaced_unless};
 ghost use Rattle.server_table.specs.Lookups.{client_here};
 ghost use Rattle.server_table.specs.Table.{Client, Table};
-ghost use Rattle.server_state.specs.Core.{CoreStands, IsSound};
+ghost use Rattle.server_state.specs.Core.{CoreStands, CourseStands, IsSound};
 ghost use Rattle.server_establishing.specs.Ahead.{IsMadeFor, RepliesStand, held_for, lease_of};
 
 use crate::ahead::{Ahead, LeaseAhead};
@@ -140,6 +141,9 @@ pub fn prepare<S: ClientSession>(
     requires none_held { core.old.held ≡ None }
     ensures made { IfOk result (λ ahead. (c : Course) → CoreStands S.stands core.old c.table → IsMadeFor c cid.0 name.now file.now ahead) }
     ensures stands { (t : Table) → CoreStands S.stands core.old t → CoreStands S.stands core.new t }
+    ensures course { (before : List Action) (out : Contents) (c : Course) → CourseStands S.stands before core.old out c →
+        CourseStands S.stands before core.new out c }
+    ensures sound { IsSound S.goes_on S.count core.old → IsSound S.goes_on S.count core.new }
     ensures only { core.new ≡ record core.old { routes = core.new.routes; pool = core.new.pool; held = core.new.held } }
     ensures held { IfOk result (λ ahead. core.new.held ≡ held_for ahead.lease) }
     ensures none_held { OnErr result (core.new.held ≡ None) }
@@ -166,6 +170,9 @@ pub fn prepare<S: ClientSession>(
 /// Gives up what was made ahead for a client that is not established: its address is free again.
 pub fn give_up<S: ClientSession>(core: &mut ServerCore<S>, ahead: Ahead)
     ensures stands { (t : Table) → CoreStands S.stands core.old t → CoreStands S.stands core.new t }
+    ensures course { (before : List Action) (out : Contents) (c : Course) → CourseStands S.stands before core.old out c →
+        CourseStands S.stands before core.new out c }
+    ensures sound { IsSound S.goes_on S.count core.old → IsSound S.goes_on S.count core.new }
     ensures only { core.new ≡ record core.old { pool = core.new.pool; held = None } }
 {
     let _ = ahead;

@@ -1,6 +1,6 @@
 //! An established client of the same name is replaced.
 
-ghost use Rattle.std.specs.Prelude.{◌≡◌, ℕ, List, option_map};
+ghost use Rattle.std.specs.Prelude.{◌≡◌, ◌≤◌, ℕ, List, option_map};
 ghost use Rattle.vpn_links.specs.Actions.{Action};
 ghost use Rattle.peer_table.specs.Outboxes.{HasRoom, Uses};
 ghost use Rattle.server_table.specs.Courses.{Course};
@@ -40,6 +40,8 @@ pub fn replace<S: ClientSession + Drop>(
     ensures uses { Uses out.old out.new 5 39 }
     ensures turn_stays { core.new.turn ≡ core.old.turn }
     ensures mark_stays { core.new.mark ≡ core.old.mark }
+    ensures held_stays { core.new.held ≡ core.old.held }
+    ensures room_stays { core.old.routes.spare_rows ≤ core.new.routes.spare_rows }
 {
     match replaced_by(core, name) {
         None => {}

@@ -12,7 +12,7 @@ ghost use Rattle.server_table.specs.Lookups.{taken_addresses};
 ghost use Rattle.server_table.specs.Table.{Table};
 ghost use Rattle.ovpn_config.specs.declared.settings.Settings.{Settings};
 ghost use Rattle.server_state.specs.Core.{CoreStands};
-ghost use Rattle.server_establishing.specs.Taking.{GivesUp, IsGivenUp, Takes};
+ghost use Rattle.server_establishing.specs.internal.Taking.{GivesUp, IsGivenUp, Takes};
 
 use crate::replacing::replaced_by;
 use address_pool::{Pool, PoolEmpty};

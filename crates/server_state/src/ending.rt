@@ -1,6 +1,6 @@
 //! A client ends.
 
-ghost use Rattle.std.specs.Prelude.{◌≡◌, ◌==◌, ◌++◌, List, true, false};
+ghost use Rattle.std.specs.Prelude.{◌≡◌, ◌≤◌, ◌==◌, ◌++◌, List, true, false};
 ghost use Rattle.vpn_links.specs.Actions.{Action, Holds};
 ghost use Rattle.peer_table.specs.Outboxes.{HasRoom, Uses, actions_of};
 ghost use Rattle.peer_table.specs.Peer.{Peer};
@@ -90,6 +90,8 @@ impl<S: ClientSession + Drop> ServerCore<S> {
         ensures uses { Uses out.old out.new 5 39 }
         ensures turn_stays { self.new.turn ≡ self.old.turn }
         ensures mark_stays { self.new.mark ≡ self.old.mark }
+        ensures held_stays { self.new.held ≡ self.old.held }
+        ensures room_stays { self.old.routes.spare_rows ≤ self.new.routes.spare_rows }
     {
         let Some(_) = self.clients.place(cid) else {
             return;

@@ -1,7 +1,4 @@
-use Rattle.std.proofs.Common.{sym, ap, subst, ◌∙◌, ◌++◌, List, Some, None, slice_get, option_map}
-use Rattle.std.specs.Prelude.{unwrap_or}
-use Rattle.client_table.specs.Tables.{entries_of}
-use Rattle.server_table.specs.Establishing.{client_cipher}
+use Rattle.std.proofs.Common.{sym, ap, subst, ◌∙◌, option_map}
 use Rattle.server_table.specs.Table.{Client}
 use Rattle.server_establishing.specs.Ahead.{lease_of}
 use Rattle.server_establishing.proofs.Placed.{some_is}
@@ -17,7 +14,7 @@ returns-clause-established g c before course x h there none named file replies =
     let l = c.places_tell_of_clients.ensures.there core course.table c.args.cid.0 i h.table place in
     let same = some_is l.client x (sym l.client_there ∙ there) in
     let cipher = c.cipher_at-cipher.ensures l.entry.value x (ap (λ o. option_map (λ e. e.value) o) l.entry_there)
-        (subst (λ (x : Client). means l.entry.value.session x.session) same l.stands.state.session) in
+    (subst (λ (x : Client). means l.entry.value.session x.session) same l.stands.state.session) in
     established_stands means before core c.take_place.new.core course x c.args.cid.0 c.args.conn (lease_of c.args.lease.now) c.args.file.now c.add_rows.new.routes
     c.args.out.now c.write.new.out c.say_establishing.new.out h (c.take_place.ensures.placed course.table x h.table there none named)
     c.take_place.ensures.turn c.take_place.ensures.mark file c.add_rows.ensures

@@ -14,5 +14,5 @@ returns-in-Some-clause-established g c before course x h there of =
     let stands = CourseStands g.S.ClientSession.stands before c.establish_at.new.core c.establish_at.new.out in
     subst (λ o. stands (established_for c.args.cid.0 c.args.conn course o)) (sym there)
     (subst (λ o. stands (established_with c.args.cid.0 c.args.conn x course o)) (sym (ap (option_map lease_of) c.in-Some.is) ∙ of.lease)
-      (c.establish_at.ensures.established before course x h there of.not_yet of.name of.file
-        (subst (RepliesStand course.table.settings (ccd_in x.file) x.peer_id) c.in-Some.is of.replies)))
+    (c.establish_at.ensures.established before course x h there of.not_yet of.name of.file
+    (subst (RepliesStand course.table.settings (ccd_in x.file) x.peer_id) c.in-Some.is of.replies)))

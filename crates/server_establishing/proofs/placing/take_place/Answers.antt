@@ -19,7 +19,7 @@ returns-clause-placed g c t x h there none named =
     (c.places_tell_of_clients.ensures.there core t c.args.cid.0 c.args.i h c.requires.place) x there none named
     (value_was means core c.args.cid.0 c.args.i v c.args.name c.args.address c.establish.new.self first c.requires.place c.value_at.ensures.value)
     (changes_are means core c.args.cid.0 c.args.i v c.args.name c.args.address c.establish.new.self ct w
-      (c.lending_sets_the_value.ensures c.establish.new.self c.args.i w) first c.requires.place c.set_address.ensures)
+    (c.lending_sets_the_value.ensures c.establish.new.self c.args.i w) first c.requires.place c.set_address.ensures)
     c.establish.ensures.admitted_is c.establish.ensures.most_is c.requires.held
 
 pub returns-clause-sound : goal.returns-clause-sound
@@ -33,6 +33,6 @@ returns-clause-sound g c h =
     let s = placed_sound means core c.args.cid.0 c.args.i v c.args.name c.args.address g.S.ClientSession.goes_on g.S.ClientSession.count g.S.ClientSession.since ct h
     (value_was means core c.args.cid.0 c.args.i v c.args.name c.args.address c.establish.new.self first c.requires.place c.value_at.ensures.value)
     (changes_are means core c.args.cid.0 c.args.i v c.args.name c.args.address c.establish.new.self ct w
-      (c.lending_sets_the_value.ensures c.establish.new.self c.args.i w) first c.requires.place c.set_address.ensures)
+    (c.lending_sets_the_value.ensures c.establish.new.self c.args.i w) first c.requires.place c.set_address.ensures)
     c.establish.ensures.admitted_is c.establish.ensures.most_is in
     record { sessions = s.sessions; most = s.most; admitted = s.admitted; connections = s.connections }

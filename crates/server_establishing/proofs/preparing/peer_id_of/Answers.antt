@@ -1,5 +1,4 @@
-use Rattle.std.proofs.Common.{Option, option_map, sym, ap, ◌∙◌}
-use Rattle.std.specs.Prelude.{unwrap_or}
+use Rattle.std.proofs.Common.{option_map, sym, ap, ◌∙◌}
 use Rattle.client_table.specs.declared.key.Key.{Key}
 use Rattle.server_table.specs.Table.{Client}
 use Rattle.server_establishing.proofs.Placed.{some_is}

@@ -1,7 +1,7 @@
-use Rattle.std.proofs.Common.{option_map, sym, ap, subst, ◌∙◌}
+use Rattle.std.proofs.Common.{option_map, sym, subst, ◌∙◌}
 use Rattle.server_table.specs.Lookups.{taken_addresses}
 use Rattle.server_table.specs.Endings.{ended}
-use Rattle.server_establishing.specs.Taking.{GivesUp}
+use Rattle.server_establishing.specs.internal.Taking.{GivesUp}
 use Rattle.server_establishing.proofs.GivenUp.{nobody_gives, somebody_gives}
 use Rattle.server_establishing.proofs.taking.address_of.Goals as goal
 
@@ -16,7 +16,7 @@ returns-in-None g c course cause h =
     let m = c.args.cid.0 in
     subst (λ o. GivesUp (option_map (λ p. p.0) o) (taken_addresses course.table) (taken_addresses (ended m cause course).table)) c.in-None.is
     (somebody_gives g.S.ClientSession.stands core course m cause c.in-Some.i c.look_at.result.now
-      (c.places_tell_of_clients.ensures.there core course.table m c.in-Some.i h (sym c.place.ensures.place ∙ c.in-Some.is)) c.look_at.ensures)
+    (c.places_tell_of_clients.ensures.there core course.table m c.in-Some.i h (sym c.place.ensures.place ∙ c.in-Some.is)) c.look_at.ensures)
 
 pub returns-in-Some-established : goal.returns-in-Some-established
 returns-in-Some-established g c course cause h =
@@ -24,4 +24,4 @@ returns-in-Some-established g c course cause h =
     let m = c.args.cid.0 in
     subst (λ o. GivesUp (option_map (λ p. p.0) o) (taken_addresses course.table) (taken_addresses (ended m cause course).table)) c.in-Some-established.is
     (somebody_gives g.S.ClientSession.stands core course m cause c.in-Some.i c.look_at.result.now
-      (c.places_tell_of_clients.ensures.there core course.table m c.in-Some.i h (sym c.place.ensures.place ∙ c.in-Some.is)) c.look_at.ensures)
+    (c.places_tell_of_clients.ensures.there core course.table m c.in-Some.i h (sym c.place.ensures.place ∙ c.in-Some.is)) c.look_at.ensures)

@@ -1,0 +1,18 @@
+use Rattle.std.proofs.Common.{sym, ap, subst, ◌∙◌}
+use Rattle.server_table.specs.Establishing.{client_established}
+use Rattle.server_establishing.specs.Ahead.{replies_in}
+use Rattle.server_establishing.specs.internal.Asking.{prepared_after}
+use Rattle.server_establishing.specs.Prepared.{IsPrepared}
+use Rattle.server_establishing.proofs.Asked.{prepared_is}
+use Rattle.server_establishing.proofs.Kept.{again_then}
+use Rattle.server_establishing.proofs.asking.establish_new.Goals as goal
+
+pub returns-clause-established : goal.returns-clause-established
+returns-clause-established g c before course x h there of = c.establish.ensures.established before course x h there of.not_yet of.name of.file of.made
+
+pub returns-clause-prepared : goal.returns-clause-prepared
+returns-clause-prepared g c course x y there of is =
+    let then = client_established c.args.cid.0 c.args.conn course in
+    subst (IsPrepared then c.args.cid.0 y) (sym (c.prepared_after.ensures ∙ ap prepared_after c.establish.ensures.replies))
+    (prepared_is then c.args.cid.0 y (replies_in c.args.ahead.lease)
+    (again_then course c.args.cid.0 c.args.conn c.args.ahead x y there of.not_yet of.name of.file of.made is))
