@@ -5,6 +5,7 @@ use Rattle.std.proofs.lemmas.Bool.{false≢true}
 use Rattle.std.proofs.lemmas.Grind.{common_steps}
 use Rattle.vpn_links.specs.declared.events.Kind.{Kind}
 use Rattle.client_table.specs.declared.key.Key.{Key}
+use Rattle.client_table.specs.declared.table.ClientTable.{ClientTable}
 use Rattle.client_table.specs.Changes.{by_key, earlier, number_where, place_of}
 use Rattle.client_table.specs.Entries.{Entry, entries}
 use Rattle.client_table.specs.Finding.{is_from}
@@ -39,6 +40,9 @@ all_from (k ∷ keys) (v ∷ values) least end n rising low =
     let above : n ≤ k.number.0 = omega (arith, low, is_least least k.number.0 two.0) in
     kept_by n k v (entries keys values) true (at_least n k.number.0 (nat_le n k.number.0) above refl)
     ∙ ap (λ es. record { key = k; value = v } ∷ es) (all_from keys values (k.number.0 + 1) end n two.1 (omega (arith, above)))
+
+pub all_are : {S : Type 0} (t : ClientTable (ClientState S)) → from_on 0 (entries_of t) ≡ entries_of t
+all_are t = all_from t.keys.items t.values.items 0 t.admitted 0 t.rising (omega arith)
 
 module _ {S : Type 0} (is_ready : S → Kind → Bool → ℕ → ℕ → Type 0) where
   -- the same for a list of entries

@@ -30,7 +30,9 @@ pub fn no_counts_are_told()
 {}
 
 /// Where all clients from a number on have the memory, the next one has its own, and those behind it have theirs.
+/// From 0 on, they are all.
 pub fn the_next_is_ready<S: ClientSession>()
-    ensures { (core : ServerCore S) (n m effects bytes : ℕ) → option_map (λ cid. cid.0) (number_where (is_from n) (entries_of core.clients)) ≡ Some m →
+    ensures all { (core : ServerCore S) → from_on 0 (entries_of core.clients) ≡ entries_of core.clients }
+    ensures next { (core : ServerCore S) (n m effects bytes : ℕ) → option_map (λ cid. cid.0) (number_where (is_from n) (entries_of core.clients)) ≡ Some m →
         AreReady S.is_ready (from_on n (entries_of core.clients)) effects bytes → NextIsReady S.is_ready core m effects bytes }
 {}
