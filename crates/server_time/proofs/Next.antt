@@ -1,12 +1,12 @@
 -- The next client is ready.
 use Rattle.std.proofs.Common.{◌≡◌, ℕ, zero, suc, ◌+◌, ◌<◌, ◌≤◌, ◌==◌, Bool, true, false, cond, List, [], ◌∷◌, slice_get, Option, None, Some, option_map, refl, sym, ap, subst, ◌∙◌, arith}
-use Rattle.std.specs.Prelude.{filter, is_some, nat_le, unwrap_or}
+use Rattle.std.specs.Prelude.{is_some, nat_le, unwrap_or}
 use Rattle.std.proofs.lemmas.Bool.{false≢true}
 use Rattle.std.proofs.lemmas.Grind.{common_steps}
 use Rattle.vpn_links.specs.declared.events.Kind.{Kind}
 use Rattle.client_table.specs.declared.key.Key.{Key}
 use Rattle.client_table.specs.declared.table.ClientTable.{ClientTable}
-use Rattle.client_table.specs.Changes.{by_key, earlier, number_where, place_of}
+use Rattle.client_table.specs.Changes.{earlier, number_where, place_of}
 use Rattle.client_table.specs.Entries.{Entry, entries}
 use Rattle.client_table.specs.Finding.{is_from}
 use Rattle.client_table.specs.Sound.{rise_from}
@@ -16,7 +16,7 @@ use Rattle.server_state.specs.declared.state.ServerCore.{ServerCore}
 use Rattle.server_time.specs.Memory.{AreReady, IsEnoughFor, NextIsReady, from_on}
 use Rattle.server_time.specs.Turns.{IsReadyAs}
 use Rattle.server_time.proofs.Ready.{both, is_least}
-use Rattle.server_time.proofs.Skips.{found, is_apart, is_below, number_of}
+use Rattle.server_time.proofs.Skips.{found, is_apart, number_of}
 
 at_least : (n m : ℕ) (b : Bool) → n ≤ m → nat_le n m ≡ b → b ≡ true
 at_least n m true low is = refl
