@@ -1,16 +1,21 @@
 -- How far a step has come, as it begins and after one effect more.
-use Rattle.std.proofs.Common.{◌≡◌, ℕ, ◌+◌, Bool, true, List, [], ◌∷◌, ◌++◌, append-nil, length, nat_lt, None, refl, sym, ap, subst, ◌∙◌}
+use Rattle.std.proofs.Common.{◌≡◌, ℕ, ◌+◌, ◌^◌, ◌≤◌, Bool, true, List, [], ◌∷◌, ◌++◌, append-nil, length, nat_lt, None, refl, sym, ap, subst, ◌∙◌, arith}
+use Rattle.std.specs.List.{AllByRecursion}
 use Rattle.std.proofs.lemmas.List.{append_assoc}
 use Rattle.vpn_base.specs.declared.names.Cid.{Cid}
 use Rattle.vpn_base.specs.declared.names.Moment.{Moment}
 use Rattle.vpn_links.specs.Actions.{Action, Contents, Holds, Stop}
 use Rattle.vpn_links.specs.declared.events.Event.{Event}
+use Rattle.client_table.specs.Entries.{Entry}
+use Rattle.client_table.specs.Tables.{entries_of}
 use Rattle.peer_table.specs.Peer.{Peer}
 use Rattle.server_table.specs.Courses.{Course, did}
 use Rattle.server_table.specs.Step.{course_begun, halted, line_came, line_said, moment_of}
 use Rattle.server_table.specs.Table.{Table}
+use Rattle.server_state.specs.declared.client.ClientState.{ClientState}
 use Rattle.server_state.specs.declared.state.ServerCore.{ServerCore}
-use Rattle.server_state.specs.Core.{CoreStands, CourseStands}
+use Rattle.server_state.specs.Core.{CoreStands, CourseStands, GoesOn, IsSound}
+use Rattle.server_core.specs.Begun.{IsSoundAhead}
 
 module _ {S : Type 0} (means : S → Peer → Type 0) (before : List Action) (core : ServerCore S) where
   -- one effect more
@@ -89,3 +94,22 @@ pub halted_stands : {S : Type 0} (means : S → Peer → Type 0) (before : List 
 halted_stands means before core old new c h is =
     did_stands means before (record core { is_stopped = true }) old new Stop (record c { table = record c.table { is_stopped = true } })
     (record { table = stopped means before core c.table h.table; outbox = h.outbox; in_turn = h.in_turn }) is
+
+-- ---- what holds of every core
+
+all_later : {S : Type 0} (goes_on : S → Type 0) (count since : S → ℕ) (most was is : ℕ) → was ≤ is → (es : List (Entry (ClientState S)))
+    → AllByRecursion (GoesOn goes_on count since most was) es → AllByRecursion (GoesOn goes_on count since most is) es
+all_later goes_on count since most was is later [] all = tt
+all_later goes_on count since most was is later (e ∷ es) all =
+    (record { session = all.0.session; few = all.0.few; past = omega (arith, later, all.0.past) }, all_later goes_on count since most was is later es all.1)
+
+pub sound_ahead : {S : Type 0} (goes_on : S → Type 0) (count since : S → ℕ) (core : ServerCore S) → IsSound goes_on count since core → core.events + 1 ≤ 2 ^ 48
+    → (moment : Moment) → core.moment.0 ≤ moment.0 → (turn : Cid)
+    → IsSoundAhead goes_on count since (record core { moment = moment; events = core.events + 1; last_taken = None; turn = turn; mark = 0 })
+sound_ahead goes_on count since core h few moment later turn = record {
+  sessions = all_later goes_on count since (core.events + 1) core.moment.0 moment.0 later (entries_of core.clients) h.sessions;
+  most = h.most;
+  admitted = omega (arith, h.admitted);
+  connections = omega (arith, h.connections);
+  events = few;
+}

@@ -1,13 +1,14 @@
 //! How a step begins, and how the server stops.
 
-ghost use Rattle.std.specs.Prelude.{◌≡◌, ◌≤◌, ◌+◌, ◌*◌, ◌^◌, [], List, false};
+ghost use Rattle.std.specs.Prelude.{◌≡◌, ◌≤◌, ◌+◌, ◌^◌, [], List, false};
 ghost use Rattle.vpn_links.specs.Actions.{Action, Contents};
 ghost use Rattle.vpn_links.specs.declared.events.Event.{Event};
 ghost use Rattle.peer_table.specs.Outboxes.{HasRoom, Uses};
 ghost use Rattle.server_table.specs.Courses.{Course};
 ghost use Rattle.server_table.specs.Step as definitions;
 ghost use Rattle.server_table.specs.Table.{Table};
-ghost use Rattle.server_state.specs.Core.{CoreStands, CourseStands};
+ghost use Rattle.server_state.specs.Core.{CoreStands, CourseStands, IsSound};
+ghost use Rattle.server_core.specs.Begun.{IsSoundAhead};
 
 use peer_table::ClientSession;
 use server_state::{ServerCore, put};
@@ -34,12 +35,11 @@ pub fn begin<S: ClientSession>(core: &mut ServerCore<S>, now: Moment, turn: Cid)
     requires { core.old.events + 1 ≤ 2 ^ 48 }
     ensures begun { (before : List Action) (t : Table) (event : Event) (out : Contents) → CoreStands S.stands core.old t → event.now ≡ now →
         out.effects ≡ before → out.staged ≡ [] → CourseStands S.stands before core.new out (definitions.course_begun t event) }
+    ensures sound { core.old.moment.0 ≤ 2 ^ 52 → IsSound S.goes_on S.count S.since core.old → IsSoundAhead S.goes_on S.count S.since core.new }
+    ensures late { core.new.moment.0 ≤ 2 ^ 52 }
     ensures turn { core.new.turn ≡ turn }
     ensures mark { core.new.mark ≡ 0 }
     ensures clients { core.new.clients ≡ core.old.clients }
-    ensures connections { core.new.connections ≡ core.old.connections }
-    ensures events { core.new.events ≡ core.old.events + 1 }
-    ensures moment { core.old.moment.0 ≤ 2 ^ 52 → core.old.moment.0 ≤ core.new.moment.0 }
 {
     core.moment = Moment(core.moment.0.max(now.0).min(LATEST));
     core.events += 1;

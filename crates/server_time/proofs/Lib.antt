@@ -6,3 +6,4 @@ mod Begun
 mod Ready
 mod Skips
 mod Untold
+mod Next

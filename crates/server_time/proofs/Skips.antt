@@ -18,14 +18,14 @@ use Rattle.server_time.proofs.Ready.{both, is_least}
 
 -- ---- numbers
 
-abbrev number_of : {V : Type 0} → ℕ → List (Entry V) → Option ℕ
+abbrev pub number_of : {V : Type 0} → ℕ → List (Entry V) → Option ℕ
 number_of n es = option_map (λ cid. cid.0) (number_where (is_from n) es)
 
-is_apart : (m n : ℕ) (b : Bool) → (m ≡ n → ⊥) → (m == n) ≡ b → b ≡ false
+pub is_apart : (m n : ℕ) (b : Bool) → (m ≡ n → ⊥) → (m == n) ≡ b → b ≡ false
 is_apart m n true apart is = absurd (apart (grind (arith, common_steps)))
 is_apart m n false apart is = refl
 
-is_below : (n m : ℕ) → nat_le n m ≡ false → m < n
+pub is_below : (n m : ℕ) → nat_le n m ≡ false → m < n
 is_below n m is = grind (arith, common_steps)
 
 -- a client of another number, before others
@@ -34,7 +34,7 @@ behind_other : {V : Type 0} (k : Key) (v : V) (es : List (Entry V)) (j : ℕ) �
 behind_other k v es j apart none =
     ap (λ b. earlier b (place_of j es)) (is_apart k.number.0 j (k.number.0 == j) apart refl) ∙ ap (earlier false) none
 
-found : {V : Type 0} (k : Key) (v : V) (es : List (Entry V)) (n : ℕ) (b : Bool) → nat_le n k.number.0 ≡ b
+pub found : {V : Type 0} (k : Key) (v : V) (es : List (Entry V)) (n : ℕ) (b : Bool) → nat_le n k.number.0 ≡ b
     → number_of n (record { key = k; value = v } ∷ es) ≡ cond b (Some k.number.0) (number_of n es)
 found k v es n true is = ap (λ b. option_map (λ (cid : Cid). cid.0) (option_map (λ (e : Entry _). e.key.number) (cond b (Some (record { key = k; value = v })) (find (by_key (is_from n)) es)))) is
 found k v es n false is = ap (λ b. option_map (λ (cid : Cid). cid.0) (option_map (λ (e : Entry _). e.key.number) (cond b (Some (record { key = k; value = v })) (find (by_key (is_from n)) es)))) is

@@ -8,6 +8,7 @@ ghost use Rattle.server_table.specs.Courses.{Course};
 ghost use Rattle.server_table.specs.Time.{clients_ticked, tick};
 ghost use Rattle.server_state.specs.declared.state.ServerCore.{ServerCore};
 ghost use Rattle.server_state.specs.Core.{CoreStands};
+ghost use Rattle.server_time.specs.Memory.{AreReady, NextIsReady, from_on};
 
 use peer_table::ClientSession;
 
@@ -26,4 +27,12 @@ pub fn absent_numbers_change_nothing<S: ClientSession>()
 /// Where no interval is set, a tick is that of the clients: nothing is told of bytes.
 pub fn no_counts_are_told()
     ensures { (c : Course) → c.table.count_interval ≡ 0 → tick c ≡ clients_ticked (length c.table.clients) 0 c }
+{}
+
+/// Where all clients from a number on have the memory, the next one has its own, and those behind it have theirs.
+/// From 0 on, they are all.
+pub fn the_next_is_ready<S: ClientSession>()
+    ensures all { (core : ServerCore S) → from_on 0 (entries_of core.clients) ≡ entries_of core.clients }
+    ensures next { (core : ServerCore S) (n m effects bytes : ℕ) → option_map (λ cid. cid.0) (number_where (is_from n) (entries_of core.clients)) ≡ Some m →
+        AreReady S.is_ready (from_on n (entries_of core.clients)) effects bytes → NextIsReady S.is_ready core m effects bytes }
 {}

@@ -8,7 +8,7 @@ mod pinging;
 mod session;
 mod turn;
 
-pub use laws::{absent_numbers_change_nothing, no_counts_are_told};
+pub use laws::{absent_numbers_change_nothing, no_counts_are_told, the_next_is_ready};
 pub use memory::take_memory;
 pub use pinging::ping;
 pub use turn::client_ticked;
