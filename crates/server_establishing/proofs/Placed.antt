@@ -195,6 +195,7 @@ module _ {S : Type 0} (means : S → Peer → Type 0) (core : ServerCore S) (m i
         record {
           session = subst (λ (v : ClientState S). goes_on v.session) value_is goes.session;
           few = subst (λ (v : ClientState S). count v.session ≤ core.events + 1) value_is goes.few;
+          past = subst (λ (v : ClientState S). since v.session ≤ core.moment.0) value_is goes.past;
         }));
     most = subst (λ k. k ≤ 4096) (sym most) h.most;
     admitted = subst (λ k. k ≤ core.events) (sym admitted) h.admitted;

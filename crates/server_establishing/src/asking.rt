@@ -73,7 +73,7 @@ fn establish_new<S: ClientSession + Drop>(
     ensures prepared { (c : Course) (x y : Client) → client_here c.table cid.0 ≡ Some x → IsAwaited c cid.0 x ahead →
         client_here (client_established cid.0 conn c).table cid.0 ≡ Some y → IsPrepared (client_established cid.0 conn c) cid.0 y result }
     ensures kept { IsKept core.new result }
-    ensures sound { IsSound S.goes_on S.count core.old → IsSound S.goes_on S.count core.new }
+    ensures sound { IsSound S.goes_on S.count S.since core.old → IsSound S.goes_on S.count S.since core.new }
     ensures uses { Uses out.old out.new (5 + effects_with ahead.file ahead.lease) (39 + bytes_with ahead.file ahead.lease) }
     ensures turn_stays { core.new.turn ≡ core.old.turn }
     ensures mark_stays { core.new.mark ≡ core.old.mark }
@@ -98,7 +98,7 @@ pub fn answer_request<S: ClientSession + Drop>(
     ensures prepared { (c : Course) (x y : Client) → client_here c.table cid.0 ≡ Some x → IsPrepared c cid.0 x prepared →
         client_here (requested cid.0 conn c (Some x)).table cid.0 ≡ Some y → IsPrepared (requested cid.0 conn c (Some x)) cid.0 y result }
     ensures kept { IsKept core.new result }
-    ensures sound { IsSound S.goes_on S.count core.old → IsSound S.goes_on S.count core.new }
+    ensures sound { IsSound S.goes_on S.count S.since core.old → IsSound S.goes_on S.count S.since core.new }
     ensures uses { Uses out.old out.new (prepared_effects prepared) (prepared_bytes prepared) }
     ensures turn_stays { core.new.turn ≡ core.old.turn }
     ensures mark_stays { core.new.mark ≡ core.old.mark }
@@ -144,7 +144,7 @@ pub fn establish_as_asked<S: ClientSession + Drop>(
     ensures prepared { (c : Course) (x y : Client) → CoreStands S.stands core.old c.table → client_here c.table cid.0 ≡ Some x → IsPrepared c cid.0 x prepared →
         client_here (established_as_asked cid.0 c (Some x)).table cid.0 ≡ Some y → IsPrepared (established_as_asked cid.0 c (Some x)) cid.0 y result }
     ensures kept { IsKept core.new result }
-    ensures sound { IsSound S.goes_on S.count core.old → IsSound S.goes_on S.count core.new }
+    ensures sound { IsSound S.goes_on S.count S.since core.old → IsSound S.goes_on S.count S.since core.new }
     ensures uses { Uses out.old out.new (prepared_effects prepared) (prepared_bytes prepared) }
     ensures turn_stays { core.new.turn ≡ core.old.turn }
     ensures mark_stays { core.new.mark ≡ core.old.mark }

@@ -37,7 +37,7 @@ pub fn establish<S: ClientSession + Drop>(
     ensures established { (before : List Action) (c : Course) (x : Client) → CourseStands S.stands before core.old out.old c →
         client_here c.table cid.0 ≡ Some x → x.established ≡ None → x.session.name ≡ Some ahead.name → ccd_in x.file ≡ ahead.file →
         IsMadeFor c cid.0 ahead.name ahead.file ahead → CourseStands S.stands before core.new out.new (client_established cid.0 conn c) }
-    ensures sound { IsSound S.goes_on S.count core.old → IsSound S.goes_on S.count core.new }
+    ensures sound { IsSound S.goes_on S.count S.since core.old → IsSound S.goes_on S.count S.since core.new }
     ensures uses { Uses out.old out.new (5 + effects_with ahead.file ahead.lease) (39 + bytes_with ahead.file ahead.lease) }
     ensures turn_stays { core.new.turn ≡ core.old.turn }
     ensures mark_stays { core.new.mark ≡ core.old.mark }

@@ -143,7 +143,7 @@ pub fn prepare<S: ClientSession>(
     ensures stands { (t : Table) → CoreStands S.stands core.old t → CoreStands S.stands core.new t }
     ensures course { (before : List Action) (out : Contents) (c : Course) → CourseStands S.stands before core.old out c →
         CourseStands S.stands before core.new out c }
-    ensures sound { IsSound S.goes_on S.count core.old → IsSound S.goes_on S.count core.new }
+    ensures sound { IsSound S.goes_on S.count S.since core.old → IsSound S.goes_on S.count S.since core.new }
     ensures only { core.new ≡ record core.old { routes = core.new.routes; pool = core.new.pool; held = core.new.held } }
     ensures held { IfOk result (λ ahead. core.new.held ≡ held_for ahead.lease) }
     ensures none_held { OnErr result (core.new.held ≡ None) }
@@ -172,7 +172,7 @@ pub fn give_up<S: ClientSession>(core: &mut ServerCore<S>, ahead: Ahead)
     ensures stands { (t : Table) → CoreStands S.stands core.old t → CoreStands S.stands core.new t }
     ensures course { (before : List Action) (out : Contents) (c : Course) → CourseStands S.stands before core.old out c →
         CourseStands S.stands before core.new out c }
-    ensures sound { IsSound S.goes_on S.count core.old → IsSound S.goes_on S.count core.new }
+    ensures sound { IsSound S.goes_on S.count S.since core.old → IsSound S.goes_on S.count S.since core.new }
     ensures only { core.new ≡ record core.old { pool = core.new.pool; held = None } }
 {
     let _ = ahead;
