@@ -48,6 +48,18 @@ sound_but goes_on count n core h = record {
   connections = h.connections;
 }
 
+goes_for : {S : Type 0} (goes_on : S → Type 0) (o : Option (Entry (ClientState S))) (v : ClientState S) → ((e : Entry (ClientState S)) → o ≡ Some e → goes_on e.value.session)
+    → option_map (λ e. e.value) o ≡ Some v → goes_on v.session
+goes_for goes_on None v all at = absurd (false≢true (ap is_some at))
+goes_for goes_on (Some e) v all at = subst (λ (v : ClientState _). goes_on v.session) (ap (λ o. unwrap_or o v) at) (all e refl)
+
+-- the session at a place of a sound core goes on
+pub goes_at : {S : Type 0} (goes_on : S → Type 0) (count : S → ℕ) (core : ServerCore S) (i : ℕ) (v : ClientState S) → IsSound goes_on count core
+    → option_map (λ e. e.value) (slice_get (entries_of core.clients) i) ≡ Some v → goes_on v.session
+goes_at goes_on count core i v h at =
+    goes_for goes_on (slice_get (entries_of core.clients) i) v
+    (λ e there. (all_at (GoesOn goes_on count (core.events + 1)) (entries_of core.clients) i e h.sessions there).session) at
+
 -- ---- unread bytes
 
 module _ {S : Type 0} (means : S → Peer → Type 0) (before : List Action) (core : ServerCore S) (c : Course) (out : Contents) (m : ℕ)

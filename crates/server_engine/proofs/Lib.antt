@@ -1,2 +1,4 @@
 mod Found
 mod Judged
+mod Asked
+mod Taken

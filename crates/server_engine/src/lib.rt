@@ -1,10 +1,16 @@
 //! What the TLS engine and the files answer.
 #![tactic(auto)]
 
+mod answers;
+mod asking;
 mod downs;
+mod files;
 mod finding;
 mod unread;
 
+pub use answers::{ReadAnswer, read_answer};
+pub use asking::ask_file;
 pub use downs::engine_is_down;
+pub use files::take_file;
 pub use finding::by_connection;
 pub use unread::judge_unread;
