@@ -2,3 +2,4 @@ mod Found
 mod Judged
 mod Asked
 mod Taken
+mod Called

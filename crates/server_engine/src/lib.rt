@@ -3,6 +3,7 @@
 
 mod answers;
 mod asking;
+mod calling;
 mod downs;
 mod files;
 mod finding;
@@ -10,6 +11,7 @@ mod unread;
 
 pub use answers::{ReadAnswer, read_answer};
 pub use asking::ask_file;
+pub use calling::{call_engine, end_if_over, send_text};
 pub use downs::engine_is_down;
 pub use files::take_file;
 pub use finding::by_connection;
