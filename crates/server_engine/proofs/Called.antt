@@ -39,57 +39,57 @@ use Rattle.server_engine.proofs.Judged.{all_at, state_at, value_is}
 
 -- ---- the session
 
--- an answer leaves the other end's session id, does nothing to the outside, and leaves the name but where there was none
-pub record AnswerKeeps (p : Peer) (o : Outcome Turn) : Type 0 where
+-- a call leaves the other end's session id, opens no connection, and leaves the name but where there was none
+pub record CallKeeps (p : Peer) (o : Outcome Turn) : Type 0 where
   pub remote : o.peer.remote ≡ p.remote
-  pub doings : o.doings ≡ []
+  pub opens : opens_in (actions_of o.peer.role o.doings) ≡ 0
   pub name : (o.peer.name ≡ p.name) ⊎ (p.name ≡ None)
 
-text_keeps : (n : ℕ) (bytes : List ℕ) (now : ℕ) (p : Peer) (s : Option Session) → AnswerKeeps p (engine.text_said n bytes now p s)
-text_keeps n bytes now p None = record { remote = refl; doings = refl; name = inl refl }
-text_keeps n bytes now p (Some s) = record { remote = refl; doings = refl; name = inl refl }
+text_keeps : (n : ℕ) (bytes : List ℕ) (now : ℕ) (p : Peer) (s : Option Session) → CallKeeps p (engine.text_said n bytes now p s)
+text_keeps n bytes now p None = record { remote = refl; opens = refl; name = inl refl }
+text_keeps n bytes now p (Some s) = record { remote = refl; opens = refl; name = inl refl }
 
 same_keeps : (n : ℕ) (p : Peer) (b : Bool)
-    → AnswerKeeps p (if b then engine.judged_at n false (engine.with_named n p) else answered p (Over NameChanged))
-same_keeps n p true = record { remote = refl; doings = refl; name = inl refl }
-same_keeps n p false = record { remote = refl; doings = refl; name = inl refl }
+    → CallKeeps p (if b then engine.judged_at n false (engine.with_named n p) else answered p (Over NameChanged))
+same_keeps n p true = record { remote = refl; opens = refl; name = inl refl }
+same_keeps n p false = record { remote = refl; opens = refl; name = inl refl }
 
-given_keeps : (n : ℕ) (name : List ℕ) (p : Peer) (known : Option (List ℕ)) → p.name ≡ known → AnswerKeeps p (engine.name_given n name p known)
-given_keeps n name p None is = record { remote = refl; doings = refl; name = inr is }
+given_keeps : (n : ℕ) (name : List ℕ) (p : Peer) (known : Option (List ℕ)) → p.name ≡ known → CallKeeps p (engine.name_given n name p known)
+given_keeps n name p None is = record { remote = refl; opens = refl; name = inr is }
 given_keeps n name p (Some known) is = same_keeps n p (bytes_eq name known)
 
-judged_keeps : (n : ℕ) (name : List ℕ) (p : Peer) (b : Bool) → AnswerKeeps p (if b then engine.name_given n name p p.name else answered p (Over BadName))
+judged_keeps : (n : ℕ) (name : List ℕ) (p : Peer) (b : Bool) → CallKeeps p (if b then engine.name_given n name p p.name else answered p (Over BadName))
 judged_keeps n name p true = given_keeps n name p p.name refl
-judged_keeps n name p false = record { remote = refl; doings = refl; name = inl refl }
+judged_keeps n name p false = record { remote = refl; opens = refl; name = inl refl }
 
-named_keeps : (n : ℕ) (name : List ℕ) (p : Peer) (stage : Stage) → AnswerKeeps p (engine.name_in n name p stage)
+named_keeps : (n : ℕ) (name : List ℕ) (p : Peer) (stage : Stage) → CallKeeps p (engine.name_in n name p stage)
 named_keeps n name p sessions.Opening = judged_keeps n (engine.kept_name name) p (is_file_name (engine.kept_name name))
-named_keeps n name p sessions.Named = record { remote = refl; doings = refl; name = inl refl }
-named_keeps n name p (sessions.Keyed keys) = record { remote = refl; doings = refl; name = inl refl }
+named_keeps n name p sessions.Named = record { remote = refl; opens = refl; name = inl refl }
+named_keeps n name p (sessions.Keyed keys) = record { remote = refl; opens = refl; name = inl refl }
 
-name_keeps : (n : ℕ) (name : List ℕ) (p : Peer) (s : Option Session) → AnswerKeeps p (engine.name_at n name p s)
-name_keeps n name p None = record { remote = refl; doings = refl; name = inl refl }
+name_keeps : (n : ℕ) (name : List ℕ) (p : Peer) (s : Option Session) → CallKeeps p (engine.name_at n name p s)
+name_keeps n name p None = record { remote = refl; opens = refl; name = inl refl }
 name_keeps n name p (Some s) = named_keeps n name p s.stage
 
-answer_keeps : (kind : Kind) (n now : ℕ) (p : Peer) → AnswerKeeps p (engine.answer_in kind n now p)
+answer_keeps : (kind : Kind) (n now : ℕ) (p : Peer) → CallKeeps p (engine.answer_in kind n now p)
 unfolding engine.text_came engine.plain_came engine.name_came
 answer_keeps (EngineText conn bytes) n now p = text_keeps n bytes now p (slice_get p.sessions n)
-answer_keeps (EnginePlain conn bytes) n now p = record { remote = refl; doings = refl; name = inl refl }
+answer_keeps (EnginePlain conn bytes) n now p = record { remote = refl; opens = refl; name = inl refl }
 answer_keeps (EngineUp conn name) n now p = name_keeps n name p (slice_get p.sessions n)
-answer_keeps (EngineDown conn) n now p = record { remote = refl; doings = refl; name = inl refl }
-answer_keeps (Datagram from bytes) n now p = record { remote = refl; doings = refl; name = inl refl }
-answer_keeps (DeviceIn bytes) n now p = record { remote = refl; doings = refl; name = inl refl }
-answer_keeps DeviceReady n now p = record { remote = refl; doings = refl; name = inl refl }
-answer_keeps (File cid answer) n now p = record { remote = refl; doings = refl; name = inl refl }
-answer_keeps (Line bytes) n now p = record { remote = refl; doings = refl; name = inl refl }
-answer_keeps Tick n now p = record { remote = refl; doings = refl; name = inl refl }
-answer_keeps Halt n now p = record { remote = refl; doings = refl; name = inl refl }
+answer_keeps (EngineDown conn) n now p = record { remote = refl; opens = refl; name = inl refl }
+answer_keeps (Datagram from bytes) n now p = record { remote = refl; opens = refl; name = inl refl }
+answer_keeps (DeviceIn bytes) n now p = record { remote = refl; opens = refl; name = inl refl }
+answer_keeps DeviceReady n now p = record { remote = refl; opens = refl; name = inl refl }
+answer_keeps (File cid answer) n now p = record { remote = refl; opens = refl; name = inl refl }
+answer_keeps (Line bytes) n now p = record { remote = refl; opens = refl; name = inl refl }
+answer_keeps Tick n now p = record { remote = refl; opens = refl; name = inl refl }
+answer_keeps Halt n now p = record { remote = refl; opens = refl; name = inl refl }
 
-on_keeps : (kind : Kind) (now : ℕ) (p : Peer) (n : Option ℕ) → AnswerKeeps p (engine.answer_on kind now p n)
-on_keeps kind now p None = record { remote = refl; doings = refl; name = inl refl }
+on_keeps : (kind : Kind) (now : ℕ) (p : Peer) (n : Option ℕ) → CallKeeps p (engine.answer_on kind now p n)
+on_keeps kind now p None = record { remote = refl; opens = refl; name = inl refl }
 on_keeps kind now p (Some n) = answer_keeps kind n now p
 
-pub keeps : (kind : Kind) (now : ℕ) (p : Peer) → AnswerKeeps p (engine.engine_came kind now p)
+pub keeps : (kind : Kind) (now : ℕ) (p : Peer) → CallKeeps p (engine.engine_came kind now p)
 unfolding engine.engine_came
 keeps kind now p = on_keeps kind now p (engine.session_on (engine.conn_in kind) p)
 
@@ -183,11 +183,11 @@ some_mapped f (Some a) = refl
 key_is : {V : Type 0} (o : Option (Entry V)) (e : Entry V) (k : Key) → o ≡ Some e → option_map (λ e. e.key) o ≡ Some k → e.key ≡ k
 key_is o e k there is = ap (λ o. unwrap_or o k) (sym (ap (λ o. option_map (λ e. e.key) o) there) ∙ is)
 
-module _ {S : Type 0} (means : S → Peer → Type 0) (before : List Action) (core : ServerCore S) (c : Course) (old new : Contents) (kind : Kind) (i : ℕ) (v w : ClientState S)
-    (k : Key) (ct : ClientTable (ClientState S)) (is : IsChangedAt core i (table.with_value w) ct)
+module _ {S : Type 0} (means : S → Peer → Type 0) (before : List Action) (core : ServerCore S) (c : Course) (old new : Contents) (f : Peer → Outcome Turn) (keeps : (p : Peer) → CallKeeps p (f p))
+    (i : ℕ) (v w : ClientState S) (k : Key) (ct : ClientTable (ClientState S)) (is : IsChangedAt core i (table.with_value w) ct)
     (at : option_map (λ e. e.value) (slice_get (entries_of core.clients) i) ≡ Some v) (key : option_map (λ e. e.key) (slice_get (entries_of core.clients) i) ≡ Some k)
     (place : table.place_of core.turn.0 (entries_of core.clients) ≡ Some i) (named : IsNamedAt core i) (others : w ≡ record v { session = w.session })
-    (left : (p : Peer) → means v.session p → Leaves means w.session old new k.address (engine.engine_came kind core.moment.0 p))
+    (left : (p : Peer) → means v.session p → Leaves means w.session old new k.address (f p))
     (there : IsThere means core c.table core.turn.0 i) where
   abbrev pub x : Client
   x = there.client
@@ -198,10 +198,10 @@ module _ {S : Type 0} (means : S → Peer → Type 0) (before : List Action) (co
       (named there.entry there.entry_there (sym (some_mapped established_at there.entry.value.established) ∙ ap is_some there.stands.state.established ∙ some))
 
   -- the call of the session is one that is put into the course
-  pub called : HasCalled means core i old new (engine.engine_came kind core.moment.0 x.session) v w ct x
+  pub called : HasCalled means core i old new (f x.session) v w ct x
   called =
-      let kept = keeps kind core.moment.0 x.session in
-      let o = engine.engine_came kind core.moment.0 x.session in
+      let kept = keeps x.session in
+      let o = f x.session in
       record {
         place = place;
         value = at;
@@ -216,26 +216,25 @@ module _ {S : Type 0} (means : S → Peer → Type 0) (before : List Action) (co
             (subst (λ (v : ClientState S). FileStands x.session.name v.file x.file) (value_is (slice_get (entries_of core.clients) i) there.entry v there.entry_there at) there.stands.file);
       }
 
-  -- it opens no connection, and the moment is that of the table
-  pub acted_is : (y : Client) → client_here c.table core.turn.0 ≡ Some y → core.moment.0 ≡ c.table.moment
-      → (((z : Client) → client_here c.table core.turn.0 ≡ Some z → HasCalled means core i old new (engine.engine_came kind core.moment.0 y.session) v w ct z)
+  -- it opens no connection
+  pub acted_is : (y : Client) → client_here c.table core.turn.0 ≡ Some y
+      → (((z : Client) → client_here c.table core.turn.0 ≡ Some z → HasCalled means core i old new (f y.session) v w ct z)
       → CourseStands means before
       (record core {
         clients = ct;
         connections = core.connections
-            + opens_in (actions_of (engine.engine_came kind core.moment.0 y.session).peer.role (engine.engine_came kind core.moment.0 y.session).doings);
+            + opens_in (actions_of (f y.session).peer.role (f y.session).doings);
       })
-      new (acted core.turn.0 y.address (engine.engine_came kind core.moment.0 y.session) c))
-      → CourseStands means before (record core { clients = ct }) new (acted core.turn.0 y.address (engine.engine_came kind c.table.moment y.session) c)
-  acted_is y here moment law =
-      let o = engine.engine_came kind core.moment.0 y.session in
+      new (acted core.turn.0 y.address (f y.session) c))
+      → CourseStands means before (record core { clients = ct }) new (acted core.turn.0 y.address (f y.session) c)
+  acted_is y here law =
+      let o = f y.session in
       let none : core.connections + opens_in (actions_of o.peer.role o.doings) ≡ core.connections =
-      ap (λ (doings : List Doing). core.connections + opens_in (actions_of o.peer.role doings)) (keeps kind core.moment.0 y.session).doings ∙ omega arith in
-      subst (λ (now : ℕ). CourseStands means before (record core { clients = ct }) new (acted core.turn.0 y.address (engine.engine_came kind now y.session) c)) moment
-      (subst (λ (n : ℕ). CourseStands means before (record core { clients = ct; connections = n }) new (acted core.turn.0 y.address o c)) none
+      ap (λ n. core.connections + n) (keeps y.session).opens ∙ omega arith in
+      subst (λ (n : ℕ). CourseStands means before (record core { clients = ct; connections = n }) new (acted core.turn.0 y.address o c)) none
       (law (λ z at.
       subst (λ (z : Client). HasCalled means core i old new o v w ct z) (same_client _ y z here at)
-      (subst (λ (x : Client). HasCalled means core i old new (engine.engine_came kind core.moment.0 x.session) v w ct x) (same_client _ x y there.client_there here) called))))
+      (subst (λ (x : Client). HasCalled means core i old new (f x.session) v w ct x) (same_client _ x y there.client_there here) called)))
 
 -- a turn that is not over
 pub goes_on_so : {A B : Type 0} (turn : Turn) → (A → B) → GoesOnUnlessOver A turn → GoesOnUnlessOver B turn

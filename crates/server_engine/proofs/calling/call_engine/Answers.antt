@@ -1,11 +1,13 @@
-use Rattle.std.proofs.Common.{refl, sym, subst, ap, ◌∙◌}
+use Rattle.std.proofs.Common.{ℕ, refl, sym, subst, ap, ◌∙◌}
 use Rattle.std.specs.Prelude.{unwrap_or}
 use Rattle.client_table.specs.Tables.{with_value_at}
 use Rattle.peer_table.specs.EngineAnswers.{engine_came}
+use Rattle.server_table.specs.Courses.{acted}
 use Rattle.server_table.specs.Table.{Client}
 use Rattle.server_state.specs.declared.client.ClientState.{ClientState}
+use Rattle.server_state.specs.Core.{CourseStands}
 use Rattle.server_engine.proofs.Asked.{same_client}
-use Rattle.server_engine.proofs.Called.{acted_is, goes_on_so, place_kept, sound_but_it, value_now, within_kept}
+use Rattle.server_engine.proofs.Called.{acted_is, goes_on_so, keeps, place_kept, sound_but_it, value_now, within_kept}
 use Rattle.server_engine.proofs.Judged.{state_at}
 use Rattle.server_engine.proofs.calling.call_engine.Goals as goal
 
@@ -16,12 +18,14 @@ returns-clause-acted g c before course x h here =
     let v = c.value_at.result.now in
     let w = c.take_answer.new.client in
     let ct = with_value_at core.clients c.args.i w in
-    acted_is means before core course c.args.out.now c.take_answer.new.out c.args.kind.now c.args.i v w c.key_at.result.now ct
+    subst (λ (now : ℕ). CourseStands means before (record core { clients = ct }) c.take_answer.new.out (acted core.turn.0 x.address (engine_came c.args.kind.now now x.session) course)) h.table.moment
+    (acted_is means before core course c.args.out.now c.take_answer.new.out (λ p. engine_came c.args.kind.now core.moment.0 p) (keeps c.args.kind.now core.moment.0)
+    c.args.i v w c.key_at.result.now ct
     (record { entries_are = c.lending_sets_the_value.ensures core.clients c.args.i w; admitted_is = refl; most_is = refl })
     c.value_at.ensures.value c.key_at.ensures c.requires.place c.requires.named c.take_answer.ensures.others c.take_answer.ensures.left
-    (c.places_tell_of_clients.ensures.there core course.table core.turn.0 c.args.i h.table c.requires.place) x here h.table.moment
+    (c.places_tell_of_clients.ensures.there core course.table core.turn.0 c.args.i h.table c.requires.place) x here
     (λ called. c.calls_are_put_into_courses.ensures.turn before core course c.args.out.now c.take_answer.new.out (engine_came c.args.kind.now core.moment.0 x.session) c.args.i v w ct
-    h called c.requires.place x here)
+    h called c.requires.place x here))
 
 pub returns-clause-answer : goal.returns-clause-answer
 returns-clause-answer g c t x h here =
