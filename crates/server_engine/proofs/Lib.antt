@@ -3,3 +3,4 @@ mod Judged
 mod Asked
 mod Taken
 mod Called
+mod Exchanged
