@@ -4,3 +4,4 @@ mod Asked
 mod Taken
 mod Called
 mod Exchanged
+mod Gone

@@ -8,6 +8,7 @@ mod downs;
 mod exchanging;
 mod files;
 mod finding;
+mod going_on;
 mod unread;
 
 pub use answers::{ReadAnswer, read_answer};
@@ -17,4 +18,5 @@ pub use downs::engine_is_down;
 pub use exchanging::{call_exchange, exchange_keys};
 pub use files::take_file;
 pub use finding::by_connection;
+pub use going_on::{Rest, go_on, take_plain};
 pub use unread::judge_unread;
