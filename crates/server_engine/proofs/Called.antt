@@ -128,7 +128,7 @@ name_known : (kept name : Option (List ℕ)) (e : Option Established) → kept �
 name_known kept name None is there named = absurd (false≢true there)
 name_known kept name (Some e) is there named = sym (ap is_some is) ∙ named
 
-same_place : {V : Type 0} (n i : ℕ) (w : V) (es : List (Entry V)) → table.place_of n (table.changed_at i (table.with_value w) es) ≡ table.place_of n es
+pub same_place : {V : Type 0} (n i : ℕ) (w : V) (es : List (Entry V)) → table.place_of n (table.changed_at i (table.with_value w) es) ≡ table.place_of n es
 same_place n i w [] = refl
 same_place n zero w (e ∷ es) = refl
 same_place n (suc i) w (e ∷ es) = ap (table.earlier (has_number n e.key)) (same_place n i w es)
@@ -146,7 +146,7 @@ at_same i v w [] at = absurd (false≢true (ap is_some at))
 at_same zero v w (e ∷ es) at = refl
 at_same (suc i) v w (e ∷ es) at = at_same i v w es at
 
-length_at : {X : Type 0} (f : X → X) (i : ℕ) (xs : List X) → length (table.changed_at i f xs) ≡ length xs
+pub length_at : {X : Type 0} (f : X → X) (i : ℕ) (xs : List X) → length (table.changed_at i f xs) ≡ length xs
 length_at f i [] = refl
 length_at f zero (x ∷ xs) = refl
 length_at f (suc i) (x ∷ xs) = ap suc (length_at f i xs)

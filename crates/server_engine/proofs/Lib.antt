@@ -5,3 +5,4 @@ mod Taken
 mod Called
 mod Exchanged
 mod Gone
+mod Ready

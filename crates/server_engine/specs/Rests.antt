@@ -38,3 +38,8 @@ abbrev pub NameFitsFor : ℕ → Peer → Turn → Type 0
 NameFitsFor longest p turns.Named = NameFits longest p.name
 NameFitsFor longest p turns.Exchange = NameFits longest p.name
 NameFitsFor longest p turn = Unit {0}
+
+-- this holds, where the client makes its key exchange
+abbrev pub IfExchange : Rest → Type 0 → Type 0
+IfExchange rests.Exchange holds = holds
+IfExchange rest holds = Unit {0}

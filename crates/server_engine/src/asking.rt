@@ -12,6 +12,7 @@ ghost use Rattle.server_table.specs.Engine.{asked, asked_for, asked_in, default_
 ghost use Rattle.server_table.specs.Lookups.{client_here};
 ghost use Rattle.server_table.specs.Table.{Client, FileState, Table};
 ghost use Rattle.server_state.specs.Core.{CoreStands, CourseStands, FileStands, IsSound};
+ghost use Rattle.server_engine.specs.Calls.{StaysReady};
 ghost use Rattle.server_engine.specs.Files.{HasNameWithin, NameFits};
 ghost use Rattle.server_engine.specs.internal.Asked.{is_unasked};
 
@@ -48,6 +49,7 @@ pub(crate) fn set_file<S: ClientSession>(core: &mut ServerCore<S>, i: usize, fil
         ((x : Client) → client_here t n ≡ Some x → FileStands x.session.name file state) →
         CoreStands S.stands core.new (with_client n (λ x. record x { file = state }) t) }
     ensures sound { IsSound S.goes_on S.count core.old → IsSound S.goes_on S.count core.new }
+    ensures ready { StaysReady S.may_exchange core.old core.new }
     ensures turn_stays { core.new.turn ≡ core.old.turn }
     ensures mark_stays { core.new.mark ≡ core.old.mark }
 {
@@ -90,6 +92,7 @@ fn ask_own<S: ClientSession>(core: &mut ServerCore<S>, i: usize, cid: Cid, longe
         client_here c.table cid.0 ≡ Some x → NameFits longest x.session.name →
         CourseStands S.stands before core.new out.new (asked_for cid.0 (unwrap_or x.session.name []) c) }
     ensures sound { IsSound S.goes_on S.count core.old → IsSound S.goes_on S.count core.new }
+    ensures ready { StaysReady S.may_exchange core.old core.new }
     ensures uses { Uses out.old out.new 1 longest }
     ensures turn_stays { core.new.turn ≡ core.old.turn }
     ensures mark_stays { core.new.mark ≡ core.old.mark }
@@ -107,6 +110,7 @@ pub(crate) fn ask_default<S: ClientSession>(core: &mut ServerCore<S>, i: usize, 
     ensures asked { (before : List Action) (c : Course) → CourseStands S.stands before core.old out.old c →
         CourseStands S.stands before core.new out.new (asked_for cid.0 default_name c) }
     ensures sound { IsSound S.goes_on S.count core.old → IsSound S.goes_on S.count core.new }
+    ensures ready { StaysReady S.may_exchange core.old core.new }
     ensures uses { Uses out.old out.new 1 7 }
     ensures turn_stays { core.new.turn ≡ core.old.turn }
     ensures mark_stays { core.new.mark ≡ core.old.mark }
@@ -135,6 +139,7 @@ fn ask_first<S: ClientSession>(core: &mut ServerCore<S>, alloc: Global, i: usize
         client_here c.table cid.0 ≡ Some x → NameFits longest x.session.name →
         CourseStands S.stands before core.new out.new (asked_in cid.0 (unwrap_or x.session.name []) c c.table.settings.ccd) }
     ensures sound { IsSound S.goes_on S.count core.old → IsSound S.goes_on S.count core.new }
+    ensures ready { StaysReady S.may_exchange core.old core.new }
     ensures uses { Uses out.old out.new 1 longest }
     ensures turn_stays { core.new.turn ≡ core.old.turn }
     ensures mark_stays { core.new.mark ≡ core.old.mark }
@@ -152,6 +157,7 @@ pub fn ask_file<S: ClientSession>(core: &mut ServerCore<S>, alloc: Global, cid: 
     ensures asked { (before : List Action) (c : Course) → CourseStands S.stands before core.old out.old c → HasNameWithin longest c.table cid.0 →
         CourseStands S.stands before core.new out.new (asked cid.0 c) }
     ensures sound { IsSound S.goes_on S.count core.old → IsSound S.goes_on S.count core.new }
+    ensures ready { StaysReady S.may_exchange core.old core.new }
     ensures uses { Uses out.old out.new 1 longest }
     ensures turn_stays { core.new.turn ≡ core.old.turn }
     ensures mark_stays { core.new.mark ≡ core.old.mark }

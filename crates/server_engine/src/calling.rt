@@ -14,7 +14,7 @@ ghost use Rattle.server_table.specs.Lookups.{client_here};
 ghost use Rattle.server_table.specs.Table.{Client, Table};
 ghost use Rattle.server_state.specs.Core.{CoreStands, CourseStands, IsSound};
 ghost use Rattle.server_state.specs.Endings.{IsSoundBut};
-ghost use Rattle.server_engine.specs.Calls.{IsNamedAt, IsReadyAt, MayExchangeAt};
+ghost use Rattle.server_engine.specs.Calls.{IsNamedAt, IsReadyAt, MayExchangeNow};
 
 use peer_table::{ClientSession, Turn};
 use server_state::{ClientState, ServerCore};
@@ -70,9 +70,7 @@ pub fn call_engine<S: ClientSession>(
         result ≡ (engine_came kind.now t.moment x.session).answer }
     ensures sound { GoesOnUnlessOver (IsSound S.goes_on S.count core.new) result }
     ensures sound_but { IsSoundBut S.goes_on S.count core.old.turn.0 core.new }
-    ensures exchange { MayExchangeAt S.may_exchange core.new i }
-    ensures place { place_of core.old.turn.0 (entries_of core.new.clients) ≡ Some i }
-    ensures within { i < length (entries_of core.new.clients) }
+    ensures ready { MayExchangeNow S.may_exchange core.new i }
     ensures room { HasRoom out.new 2 93 }
     ensures uses { Uses out.old out.new room.0 room.1 }
     ensures turn_stays { core.new.turn ≡ core.old.turn }

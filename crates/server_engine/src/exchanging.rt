@@ -14,7 +14,7 @@ ghost use Rattle.server_table.specs.Lookups.{client_here};
 ghost use Rattle.server_table.specs.Table.{Client, Table};
 ghost use Rattle.server_state.specs.Core.{CoreStands, CourseStands, IsSound};
 ghost use Rattle.server_state.specs.Endings.{IsSoundBut};
-ghost use Rattle.server_engine.specs.Calls.{IsNamedAt, MayExchangeAt};
+ghost use Rattle.server_engine.specs.Calls.{MayExchangeNow};
 
 use crate::calling::end_if_over;
 use peer_table::{ClientSession, Turn};
@@ -81,10 +81,7 @@ fn make_exchange<S: ClientSession>(
 /// done. It takes no memory.
 pub fn call_exchange<S: ClientSession>(core: &mut ServerCore<S>, i: usize, draw: &Draw, out: &mut Outbox) -> Turn
     requires room { HasRoom out.old 2 93 }
-    requires exchange { MayExchangeAt S.may_exchange core.old i }
-    requires place { place_of core.old.turn.0 (entries_of core.old.clients) ≡ Some i }
-    requires within { i < length (entries_of core.old.clients) }
-    requires named { IsNamedAt core.old i }
+    requires ready { MayExchangeNow S.may_exchange core.old i }
     requires sound { IsSound S.goes_on S.count core.old }
     ensures acted { (before : List Action) (c : Course) (x : Client) → CourseStands S.stands before core.old out.old c → client_here c.table core.old.turn.0 ≡ Some x →
         CourseStands S.stands before core.new out.new
@@ -112,10 +109,7 @@ pub fn call_exchange<S: ClientSession>(core: &mut ServerCore<S>, i: usize, draw:
 /// takes no memory.
 pub fn exchange_keys<S: ClientSession + Drop>(core: &mut ServerCore<S>, i: usize, draw: &Draw, out: &mut Outbox)
     requires room { HasRoom out.old 7 132 }
-    requires exchange { MayExchangeAt S.may_exchange core.old i }
-    requires place { place_of core.old.turn.0 (entries_of core.old.clients) ≡ Some i }
-    requires within { i < length (entries_of core.old.clients) }
-    requires named { IsNamedAt core.old i }
+    requires ready { MayExchangeNow S.may_exchange core.old i }
     requires sound { IsSound S.goes_on S.count core.old }
     ensures exchanged { (before : List Action) (c : Course) (x : Client) → CourseStands S.stands before core.old out.old c → client_here c.table core.old.turn.0 ≡ Some x →
         CourseStands S.stands before core.new out.new

@@ -13,9 +13,9 @@ ghost use Rattle.server_table.specs.Lookups.{client_here};
 ghost use Rattle.server_table.specs.Table.{Client};
 ghost use Rattle.server_state.specs.Core.{CourseStands, IsSound};
 ghost use Rattle.server_state.specs.Endings.{IsSoundBut};
-ghost use Rattle.server_engine.specs.Calls.{IsNamedAt, IsReadyAt, MayExchangeAt};
+ghost use Rattle.server_engine.specs.Calls.{IsNamedAt, IsReadyAt, MayExchangeNow, StaysReady};
 ghost use Rattle.server_engine.specs.Files.{HasNameWithin};
-ghost use Rattle.server_engine.specs.Rests.{HasNameFor, Leads, NameFitsFor};
+ghost use Rattle.server_engine.specs.Rests.{HasNameFor, IfExchange, Leads, NameFitsFor};
 
 use crate::asking::ask_file;
 use crate::calling::call_engine;
@@ -73,6 +73,7 @@ pub fn go_on<S: ClientSession + Drop>(
     requires sound_but { IsSoundBut S.goes_on S.count core.old.turn.0 core.old }
     ensures gone_on { (before : List Action) (c : Course) (draw : Draw) → CourseStands S.stands before core.old out.old c →
         HasNameFor longest c.table core.old.turn.0 turn → Leads S.stands before core.new out.new draw core.old.turn.0 (gone_on draw core.old.turn.0 c turn) result }
+    ensures ready { IfExchange result (StaysReady S.may_exchange core.old core.new) }
     ensures sound { IsSound S.goes_on S.count core.new }
     ensures uses { Uses out.old out.new 6 (longest + 39) }
     ensures turn_stays { core.new.turn ≡ core.old.turn }
@@ -122,6 +123,7 @@ pub fn take_plain<S: ClientSession + Drop>(
         NameFitsFor longest (engine_came kind.now c.table.moment x.session).peer (engine_came kind.now c.table.moment x.session).answer →
         Leads S.stands before core.new out.new draw core.old.turn.0
         (engine_acted draw core.old.turn.0 x c (engine_came kind.now c.table.moment x.session)) result }
+    ensures ready { IfExchange result (MayExchangeNow S.may_exchange core.new i) }
     ensures sound { IsSound S.goes_on S.count core.new }
     ensures uses { Uses out.old out.new (room.0 + 6) (room.1 + (longest + 39)) }
     ensures turn_stays { core.new.turn ≡ core.old.turn }

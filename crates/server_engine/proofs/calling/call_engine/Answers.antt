@@ -7,8 +7,9 @@ use Rattle.server_table.specs.Table.{Client}
 use Rattle.server_state.specs.declared.client.ClientState.{ClientState}
 use Rattle.server_state.specs.Core.{CourseStands}
 use Rattle.server_engine.proofs.Asked.{same_client}
-use Rattle.server_engine.proofs.Called.{acted_is, goes_on_so, keeps, place_kept, sound_but_it, value_now, within_kept}
+use Rattle.server_engine.proofs.Called.{acted_is, goes_on_so, keeps, sound_but_it}
 use Rattle.server_engine.proofs.Judged.{state_at}
+use Rattle.server_engine.proofs.Ready.{ready_now}
 use Rattle.server_engine.proofs.calling.call_engine.Goals as goal
 
 pub returns-clause-acted : goal.returns-clause-acted
@@ -54,26 +55,11 @@ returns-clause-sound_but g c =
     (record { entries_are = c.lending_sets_the_value.ensures core.clients c.args.i w; admitted_is = refl; most_is = refl })
     g.S.ClientSession.goes_on g.S.ClientSession.count c.requires.place c.requires.sound
 
-pub returns-clause-exchange : goal.returns-clause-exchange
-returns-clause-exchange g c v at =
+pub returns-clause-ready : goal.returns-clause-ready
+returns-clause-ready g c =
     let core = c.args.core.now in
+    let v = c.value_at.result.now in
     let w = c.take_answer.new.client in
-    subst (λ (v : ClientState _). g.S.ClientSession.may_exchange v.session)
-    (ap (λ o. unwrap_or o v)
-    (sym (value_now core core.turn.0 c.args.i c.value_at.result.now w (with_value_at core.clients c.args.i w)
-    (record { entries_are = c.lending_sets_the_value.ensures core.clients c.args.i w; admitted_is = refl; most_is = refl }) c.value_at.ensures.value) ∙ at))
-    c.take_answer.ensures.exchange
-
-pub returns-clause-place : goal.returns-clause-place
-returns-clause-place g c =
-    let core = c.args.core.now in
-    let w = c.take_answer.new.client in
-    place_kept core core.turn.0 c.args.i c.value_at.result.now w (with_value_at core.clients c.args.i w)
-    (record { entries_are = c.lending_sets_the_value.ensures core.clients c.args.i w; admitted_is = refl; most_is = refl }) c.requires.place
-
-pub returns-clause-within : goal.returns-clause-within
-returns-clause-within g c =
-    let core = c.args.core.now in
-    let w = c.take_answer.new.client in
-    within_kept core core.turn.0 c.args.i c.value_at.result.now w (with_value_at core.clients c.args.i w)
-    (record { entries_are = c.lending_sets_the_value.ensures core.clients c.args.i w; admitted_is = refl; most_is = refl }) c.requires.within
+    ready_now g.S.ClientSession.may_exchange core c.args.i v w (with_value_at core.clients c.args.i w)
+    (record { entries_are = c.lending_sets_the_value.ensures core.clients c.args.i w; admitted_is = refl; most_is = refl })
+    c.value_at.ensures.value c.requires.place c.requires.within c.requires.named (ap (λ (w : ClientState _). w.established) c.take_answer.ensures.others) c.take_answer.ensures.exchange

@@ -21,7 +21,7 @@ returns-clause-acted g c before course x h here =
     let ct = with_value_at core.clients c.args.i w in
     let id = c.peer_id_at-peer_id.result in
     let draw = c.args.draw.now in
-    let there = c.places_tell_of_clients.ensures.there core course.table core.turn.0 c.args.i h.table c.requires.place in
+    let there = c.places_tell_of_clients.ensures.there core course.table core.turn.0 c.args.i h.table c.requires.ready.place in
     let same = same_client _ there.client x there.client_there here in
     subst (λ (ours : Policy). CourseStands means before (record core { clients = ct }) c.make_exchange.new.out
     (acted core.turn.0 x.address (exchanged (policy_with ours (cipher_of x.session)) x.peer_id draw x.session) course)) (ap (λ s. s.ciphers) h.table.settings)
@@ -32,16 +32,16 @@ returns-clause-acted g c before course x h here =
     (λ p. keeps (policy_with core.settings.ciphers (cipher_of p)) id draw p)
     c.args.i v w c.key_at.result.now ct
     (record { entries_are = c.lending_sets_the_value.ensures core.clients c.args.i w; admitted_is = refl; most_is = refl })
-    c.value_at.ensures.value c.key_at.ensures c.requires.place c.requires.named c.make_exchange.ensures.others c.make_exchange.ensures.left there x here
+    c.value_at.ensures.value c.key_at.ensures c.requires.ready.place c.requires.ready.named c.make_exchange.ensures.others c.make_exchange.ensures.left there x here
     (λ called. c.calls_are_put_into_courses.ensures.turn before core course c.args.out.now c.make_exchange.new.out
-    (exchanged (policy_with core.settings.ciphers (cipher_of x.session)) id draw x.session) c.args.i v w ct h called c.requires.place x here)))
+    (exchanged (policy_with core.settings.ciphers (cipher_of x.session)) id draw x.session) c.args.i v w ct h called c.requires.ready.place x here)))
 
 pub returns-clause-answer : goal.returns-clause-answer
 returns-clause-answer g c t x h here =
     let means = g.S.ClientSession.stands in
     let core = c.args.core.now in
     let id = c.peer_id_at-peer_id.result in
-    let there = c.places_tell_of_clients.ensures.there core t core.turn.0 c.args.i h c.requires.place in
+    let there = c.places_tell_of_clients.ensures.there core t core.turn.0 c.args.i h c.requires.ready.place in
     let same = same_client _ there.client x there.client_there here in
     c.make_exchange.ensures.answer x.session
     (subst (λ (x : Client). means c.value_at.result.now.session x.session) same (state_at means core t core.turn.0 c.args.i c.value_at.result.now there c.value_at.ensures.value).session)
@@ -64,4 +64,4 @@ returns-clause-sound_but g c =
     let w = c.make_exchange.new.client in
     sound_but_it core core.turn.0 c.args.i c.value_at.result.now w (with_value_at core.clients c.args.i w)
     (record { entries_are = c.lending_sets_the_value.ensures core.clients c.args.i w; admitted_is = refl; most_is = refl })
-    g.S.ClientSession.goes_on g.S.ClientSession.count c.requires.place c.requires.sound
+    g.S.ClientSession.goes_on g.S.ClientSession.count c.requires.ready.place c.requires.sound
