@@ -6,3 +6,4 @@ mod Called
 mod Exchanged
 mod Gone
 mod Ready
+mod Begun

@@ -1,5 +1,5 @@
 -- What is left to do of a step, behind an answer of the engine.
-use Rattle.std.specs.Prelude.{◌≡◌, ℕ, List}
+use Rattle.std.specs.Prelude.{◌≡◌, ℕ, Bool, true, false, List}
 use Rattle.vpn_base.specs.declared.names.Draw.{Draw}
 use Rattle.vpn_links.specs.Actions.{Action, Contents}
 use Rattle.peer_table.specs.declared.outcomes.Turn.{Turn}
@@ -7,7 +7,7 @@ use Rattle.peer_table.specs.declared.outcomes.Turn.TheVariants as turns
 use Rattle.peer_table.specs.Peer.{Outcome, Peer}
 use Rattle.server_table.specs.Courses.{Course}
 use Rattle.server_table.specs.Engine.{unread_judged}
-use Rattle.server_table.specs.Exchange.{exchange, messages_taken}
+use Rattle.server_table.specs.Exchange.{exchange, exchange_made, messages_taken}
 use Rattle.server_table.specs.Table.{Table}
 use Rattle.server_state.specs.declared.state.ServerCore.{ServerCore}
 use Rattle.server_state.specs.Core.{CourseStands}
@@ -43,3 +43,8 @@ NameFitsFor longest p turn = Unit {0}
 abbrev pub IfExchange : Rest → Type 0 → Type 0
 IfExchange rests.Exchange holds = holds
 IfExchange rest holds = Unit {0}
+
+-- the client has made its key exchange, behind which more is done, or it makes none
+abbrev pub HasBegun : {S : Type 0} → (S → Peer → Type 0) → List Action → ServerCore S → Contents → Draw → ℕ → Course → Bool → Type 0
+HasBegun means before core out draw n c true = IsLeft means before core out (exchange_made n) (exchange draw n c)
+HasBegun means before core out draw n c false = CourseStands means before core out (exchange draw n c)

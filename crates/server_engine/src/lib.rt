@@ -3,6 +3,7 @@
 
 mod answers;
 mod asking;
+mod beginning;
 mod calling;
 mod downs;
 mod exchanging;
@@ -13,6 +14,7 @@ mod unread;
 
 pub use answers::{ReadAnswer, read_answer};
 pub use asking::ask_file;
+pub use beginning::{begin_exchange, know_file};
 pub use calling::{call_engine, end_if_over, send_text};
 pub use downs::engine_is_down;
 pub use exchanging::{call_exchange, exchange_keys};

@@ -28,3 +28,8 @@ awaited_default (Known file) = None
 abbrev pub IsTakenAs : {S : Type 0} → (S → Peer → Type 0) → List Action → ServerCore S → Contents → Draw → ℕ → Course → Course → Option Ccd → Type 0
 IsTakenAs means before core out draw n c done None = CourseStands means before core out done
 IsTakenAs means before core out draw n c done (Some file) = CourseStands means before core out c × (done ≡ file_known draw n file c)
+
+-- whether it is known what the file says
+abbrev pub is_known : ClientFile → Bool
+is_known (files.Known ccd) = true
+is_known file = false
