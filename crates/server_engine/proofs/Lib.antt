@@ -7,3 +7,4 @@ mod Exchanged
 mod Gone
 mod Ready
 mod Begun
+mod Passed

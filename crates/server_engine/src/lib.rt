@@ -10,6 +10,7 @@ mod exchanging;
 mod files;
 mod finding;
 mod going_on;
+mod messages;
 mod unread;
 
 pub use answers::{ReadAnswer, read_answer};
@@ -21,4 +22,5 @@ pub use exchanging::{call_exchange, exchange_keys};
 pub use files::take_file;
 pub use finding::by_connection;
 pub use going_on::{Rest, go_on, take_plain};
+pub use messages::{Waiting, take_message};
 pub use unread::judge_unread;
