@@ -1,5 +1,5 @@
 -- Files that are asked for.
-use Rattle.std.proofs.Common.{◌≡◌, ℕ, Bool, true, false, List, [], ◌∷◌, ◌++◌, slice_get, option_map, Option, Some, None, refl, sym, ap, subst, ◌∙◌}
+use Rattle.std.proofs.Common.{◌≡◌, ℕ, true, false, List, [], ◌∷◌, ◌++◌, slice_get, option_map, Option, Some, None, refl, sym, ap, subst, ◌∙◌}
 use Rattle.std.specs.Prelude.{unwrap_or}
 use Rattle.std.proofs.lemmas.Bool.{false≢true}
 use Rattle.std.proofs.lemmas.List.{append_assoc}
@@ -7,10 +7,9 @@ use Rattle.vpn_base.specs.declared.names.Cid.{Cid}
 use Rattle.vpn_links.specs.Actions.{Action, Ask, Contents, Holds}
 use Rattle.client_table.specs.declared.table.ClientTable.{ClientTable}
 use Rattle.client_table.specs.Changes as table
-use Rattle.client_table.specs.Entries.{Entry}
 use Rattle.client_table.specs.Tables.{entries_of}
 use Rattle.peer_table.specs.Peer.{Peer}
-use Rattle.server_table.specs.Courses.{Course, did, with_client}
+use Rattle.server_table.specs.Courses.{Course, with_client}
 use Rattle.server_table.specs.Engine.{asked, asked_by, asked_for, asked_in, asked_once}
 use Rattle.server_table.specs.Lookups.{cid, client_here}
 use Rattle.server_table.specs.Table.{Awaited, Client, FileState, Known, Table, Unasked}
@@ -18,9 +17,9 @@ use Rattle.server_state.specs.declared.client.ClientFile.{ClientFile}
 use Rattle.server_state.specs.declared.client.ClientFile.TheVariants as files
 use Rattle.server_state.specs.declared.client.ClientState.{ClientState}
 use Rattle.server_state.specs.declared.state.ServerCore.{ServerCore}
-use Rattle.server_state.specs.Core.{AreInTurn, CoreStands, CourseStands, FileStands, IsOfClient, StateStands}
+use Rattle.server_state.specs.Core.{AreInTurn, CoreStands, CourseStands, FileStands, IsOfClient}
 use Rattle.server_state.specs.Places.{IsChangedAt, IsThere}
-use Rattle.server_engine.specs.Files.{HasNameWithin, NameFits}
+use Rattle.server_engine.specs.Files.{NameFits}
 use Rattle.server_engine.specs.internal.Asked.{is_unasked}
 use Rattle.server_engine.proofs.Judged.{state_at, value_is}
 

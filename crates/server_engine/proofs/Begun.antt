@@ -1,5 +1,5 @@
 -- Key exchanges that begin.
-use Rattle.std.proofs.Common.{◌≡◌, ℕ, Bool, true, false, List, slice_get, option_map, Option, Some, refl, sym, ap, subst, ◌∙◌}
+use Rattle.std.proofs.Common.{◌≡◌, ℕ, true, false, List, slice_get, option_map, Option, Some, refl, sym, ap, subst, ◌∙◌}
 use Rattle.std.proofs.lemmas.Bool.{false≢true}
 use Rattle.vpn_base.specs.declared.names.Draw.{Draw}
 use Rattle.vpn_links.specs.Actions.{Action, Contents}
@@ -8,7 +8,7 @@ use Rattle.peer_table.specs.Exchange.{cipher_of, exchanged}
 use Rattle.peer_table.specs.Peer.{Peer}
 use Rattle.server_table.specs.Courses.{Course, acted}
 use Rattle.server_table.specs.Endings.{turned}
-use Rattle.server_table.specs.Exchange.{exchange, exchange_acted, exchange_for, exchange_made, exchange_with, policy_with}
+use Rattle.server_table.specs.Exchange.{exchange, exchange_acted, exchange_for, exchange_with, policy_with}
 use Rattle.server_table.specs.Table.{Awaited, Client, FileState, Known, Unasked}
 use Rattle.server_state.specs.declared.client.ClientFile.{ClientFile}
 use Rattle.server_state.specs.declared.client.ClientFile.TheVariants as files

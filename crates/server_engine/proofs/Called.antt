@@ -1,5 +1,5 @@
 -- What an answer of the engine leaves of a client's session, and of the core.
-use Rattle.std.proofs.Common.{◌≡◌, ℕ, zero, suc, ◌+◌, ◌<◌, ◌≤◌, ◌⊎◌, inl, inr, Bool, true, false, cond, List, [], ◌∷◌, length, slice_get, option_map, Option, Some, None, refl, sym, ap, subst, ◌∙◌, arith}
+use Rattle.std.proofs.Common.{◌≡◌, ℕ, zero, suc, ◌+◌, ◌<◌, ◌≤◌, ◌⊎◌, inl, inr, Bool, true, false, List, [], ◌∷◌, length, slice_get, option_map, Option, Some, None, refl, sym, ap, subst, ◌∙◌, arith}
 use Rattle.std.specs.Prelude.{is_some, unwrap_or, if◌then◌else◌}
 use Rattle.std.specs.Str.{bytes_eq}
 use Rattle.std.proofs.lemmas.Bool.{false≢true}
@@ -21,7 +21,7 @@ use Rattle.peer_table.specs.EngineAnswers as engine
 use Rattle.peer_table.specs.KeySessions.{Session, Stage}
 use Rattle.peer_table.specs.KeySessions as sessions
 use Rattle.peer_table.specs.Outboxes.{GoesOnUnlessOver, Leaves, actions_of}
-use Rattle.peer_table.specs.Peer.{Doing, Outcome, Peer, answered}
+use Rattle.peer_table.specs.Peer.{Outcome, Peer, answered}
 use Rattle.server_table.specs.Courses.{Course, acted}
 use Rattle.server_table.specs.Lookups.{client_here}
 use Rattle.server_table.specs.Table.{Client, Established, FileState, Known, Unasked, Awaited}

@@ -1,5 +1,5 @@
 -- What follows the call of a client's session.
-use Rattle.std.proofs.Common.{◌≡◌, ℕ, zero, suc, cond, List, [], ◌∷◌, Bool, true, false, slice_get, Option, Some, None, refl, sym, ap, subst, ◌∙◌}
+use Rattle.std.proofs.Common.{◌≡◌, ℕ, zero, suc, cond, List, [], ◌∷◌, Bool, true, false, slice_get, Option, Some, None, sym, ap, subst}
 use Rattle.std.specs.Prelude.{is_some, unwrap_or}
 use Rattle.std.proofs.lemmas.Bool.{false≢true}
 use Rattle.vpn_base.specs.declared.address.Addr.{Addr}
@@ -9,8 +9,8 @@ use Rattle.peer_table.specs.Peer.{Outcome, Peer}
 use Rattle.peer_table.specs.Places.{changed_at}
 use Rattle.server_table.specs.Courses.{Course, acted}
 use Rattle.server_table.specs.Lookups.{client_here, if_here}
-use Rattle.server_table.specs.Table.{Client, Table}
-use Rattle.server_engine.specs.Files.{HasNameWithin, NameFits}
+use Rattle.server_table.specs.Table.{Client}
+use Rattle.server_engine.specs.Files.{NameFits}
 use Rattle.server_engine.specs.Rests.{HasNameFor, NameFitsFor}
 
 if_there : (peer : Peer) (x y : Client) (b : Bool) → cond b (Some (record x { session = peer })) None ≡ Some y → y.session ≡ peer

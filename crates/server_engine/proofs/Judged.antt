@@ -1,10 +1,9 @@
 -- What is left unread.
-use Rattle.std.proofs.Common.{◌≡◌, ℕ, zero, suc, ◌+◌, ◌==◌, Bool, true, false, List, [], ◌∷◌, slice_get, option_map, Option, Some, None, refl, sym, ap, subst, ◌∙◌, arith}
+use Rattle.std.proofs.Common.{◌≡◌, ℕ, zero, suc, ◌+◌, Bool, List, [], ◌∷◌, slice_get, option_map, Option, Some, None, refl, sym, ap, subst, ◌∙◌}
 use Rattle.std.specs.Prelude.{nat_lt, unwrap_or, is_some}
 use Rattle.std.specs.List.{AllByRecursion}
 use Rattle.std.proofs.lemmas.Bool.{false≢true}
 use Rattle.vpn_links.specs.Actions.{Action, Contents}
-use Rattle.client_table.specs.Changes as table
 use Rattle.client_table.specs.Entries.{Entry}
 use Rattle.client_table.specs.Tables.{entries_of}
 use Rattle.peer_table.specs.Exchange.{most_unread}
@@ -12,10 +11,10 @@ use Rattle.peer_table.specs.Peer.{Peer}
 use Rattle.server_table.specs.Courses.{Course}
 use Rattle.server_table.specs.Engine.{unread_if, unread_judged, unread_limit, unread_of}
 use Rattle.server_table.specs.Lookups.{client_here}
-use Rattle.server_table.specs.Table.{Client, Table}
+use Rattle.server_table.specs.Table.{Table}
 use Rattle.server_state.specs.declared.client.ClientState.{ClientState}
 use Rattle.server_state.specs.declared.state.ServerCore.{ServerCore}
-use Rattle.server_state.specs.Core.{CoreStands, CourseStands, GoesOn, IsSound, StateStands}
+use Rattle.server_state.specs.Core.{CourseStands, GoesOn, IsSound, StateStands}
 use Rattle.server_state.specs.Endings.{IsSoundBut}
 use Rattle.server_state.specs.Places.{IsThere}
 

@@ -13,14 +13,13 @@ use Rattle.peer_table.specs.Peer.{Peer}
 use Rattle.server_table.specs.Courses.{Course, client_changed, reported}
 use Rattle.server_table.specs.Exchange.{message_came, messages_taken_by, messages_taken_of, other_message, push_request, requested}
 use Rattle.server_table.specs.Lookups.{cid, client_here}
-use Rattle.server_table.specs.Table.{Client}
 use Rattle.server_state.specs.declared.client.ClientState.{ClientState}
 use Rattle.server_state.specs.declared.state.ServerCore.{ServerCore}
-use Rattle.server_state.specs.Core.{CourseStands, FileStands, IsOfClient, established_at, name_once}
+use Rattle.server_state.specs.Core.{CourseStands, FileStands, established_at, name_once}
 use Rattle.server_state.specs.Places.{IsChangedAt, IsThere}
 use Rattle.server_engine.specs.declared.messages.Waiting.{Waiting}
 use Rattle.server_engine.specs.declared.messages.Waiting.TheVariants as found
-use Rattle.server_engine.specs.Messages.{HasPassed, IsPassed, Sees, SeesBytes}
+use Rattle.server_engine.specs.Messages.{IsPassed, Sees}
 use Rattle.server_engine.proofs.Judged.{state_at, value_is}
 
 -- a message leaves the other end's session id and name

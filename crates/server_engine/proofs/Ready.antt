@@ -56,7 +56,7 @@ module _ {S : Type 0} (may_exchange : S → Type 0) (core : ServerCore S) (i : �
       let value : was.value ≡ v = value_is (slice_get (entries_of core.clients) j) was v there (ap (λ j. option_map (λ e. e.value) (slice_get (entries_of core.clients) j)) (sym is.1) ∙ at) in
       ap (λ (e : Entry (ClientState S)). is_some e.key.name) is.0
       ∙ named was there
-          (ap (λ (v : ClientState S). is_some v.established) value ∙ ap is_some (sym same) ∙ ap (λ (e : Entry (ClientState S)). is_some e.value.established) (sym is.0) ∙ some)
+      (ap (λ (v : ClientState S). is_some v.established) value ∙ ap is_some (sym same) ∙ ap (λ (e : Entry (ClientState S)). is_some e.value.established) (sym is.0) ∙ some)
 
   -- they have names still
   pub named_still : w.established ≡ v.established → (j : ℕ) → IsNamedAt core j → IsNamedAt (record core { clients = ct }) j

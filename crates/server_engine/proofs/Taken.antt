@@ -1,5 +1,5 @@
 -- Answers for clients' files that are taken.
-use Rattle.std.proofs.Common.{◌≡◌, ℕ, Bool, true, false, List, slice_get, option_map, Option, Some, None, Result, Ok, Err, refl, sym, ap, subst, ◌∙◌}
+use Rattle.std.proofs.Common.{◌≡◌, ℕ, Bool, List, slice_get, option_map, Option, Some, None, refl, sym, ap, subst, ◌∙◌}
 use Rattle.std.specs.Prelude.{is_some, unwrap_or}
 use Rattle.std.specs.Str.{bytes_eq}
 use Rattle.std.proofs.lemmas.Bool.{false≢true}
@@ -23,7 +23,6 @@ use Rattle.server_state.specs.declared.client.ClientState.{ClientState}
 use Rattle.server_state.specs.declared.state.ServerCore.{ServerCore}
 use Rattle.server_state.specs.Core.{CourseStands, FileStands}
 use Rattle.server_state.specs.Places.{IsThere}
-use Rattle.server_engine.specs.declared.answers.ReadAnswer.{ReadAnswer}
 use Rattle.server_engine.specs.declared.answers.ReadAnswer.TheVariants as read
 use Rattle.server_engine.specs.Files.{IsTaken, Tells}
 use Rattle.server_engine.specs.internal.Asked.{IsTakenAs, awaited_default}

@@ -4,7 +4,7 @@ use Rattle.vpn_base.specs.declared.names.Draw.{Draw}
 use Rattle.vpn_links.specs.Actions.{Action, Contents}
 use Rattle.peer_table.specs.declared.outcomes.Turn.{Turn}
 use Rattle.peer_table.specs.declared.outcomes.Turn.TheVariants as turns
-use Rattle.peer_table.specs.Peer.{Outcome, Peer}
+use Rattle.peer_table.specs.Peer.{Peer}
 use Rattle.server_table.specs.Courses.{Course}
 use Rattle.server_table.specs.Engine.{unread_judged}
 use Rattle.server_table.specs.Exchange.{exchange, exchange_made, messages_taken}

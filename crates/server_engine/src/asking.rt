@@ -84,7 +84,13 @@ fn put_ask_own<S: ClientSession>(cid: Cid, session: &S, longest: usize, out: &mu
 }
 
 // The client at this place waits for the file of its name.
-fn ask_own<S: ClientSession>(core: &mut ServerCore<S>, i: usize, cid: Cid, longest: usize, out: &mut Outbox)
+fn ask_own<S: ClientSession>(
+    core: &mut ServerCore<S>,
+    i: usize,
+    cid: Cid,
+    longest: usize,
+    out: &mut Outbox,
+)
     requires room { HasRoom out.old 1 longest }
     requires place { place_of cid.0 (entries_of core.old.clients) ≡ Some i }
     requires within { i < length (entries_of core.old.clients) }
@@ -103,7 +109,12 @@ fn ask_own<S: ClientSession>(core: &mut ServerCore<S>, i: usize, cid: Cid, longe
 }
 
 // The client at this place waits for the file for all clients that have none.
-pub(crate) fn ask_default<S: ClientSession>(core: &mut ServerCore<S>, i: usize, cid: Cid, out: &mut Outbox)
+pub(crate) fn ask_default<S: ClientSession>(
+    core: &mut ServerCore<S>,
+    i: usize,
+    cid: Cid,
+    out: &mut Outbox,
+)
     requires room { HasRoom out.old 1 7 }
     requires place { place_of cid.0 (entries_of core.old.clients) ≡ Some i }
     requires within { i < length (entries_of core.old.clients) }
@@ -115,7 +126,13 @@ pub(crate) fn ask_default<S: ClientSession>(core: &mut ServerCore<S>, i: usize, 
     ensures turn_stays { core.new.turn ≡ core.old.turn }
     ensures mark_stays { core.new.mark ≡ core.old.mark }
 {
-    put(out, &Effect::Ask { cid, name: b"DEFAULT" });
+    put(
+        out,
+        &Effect::Ask {
+            cid,
+            name: b"DEFAULT",
+        },
+    );
     set_file(core, i, ClientFile::AwaitsDefault);
 }
 
@@ -131,7 +148,14 @@ fn is_unasked(file: &ClientFile) -> bool
 }
 
 // The file of the client at this place, for which none was asked, is looked for.
-fn ask_first<S: ClientSession>(core: &mut ServerCore<S>, alloc: Global, i: usize, cid: Cid, longest: usize, out: &mut Outbox)
+fn ask_first<S: ClientSession>(
+    core: &mut ServerCore<S>,
+    alloc: Global,
+    i: usize,
+    cid: Cid,
+    longest: usize,
+    out: &mut Outbox,
+)
     requires room { HasRoom out.old 1 longest }
     requires place { place_of cid.0 (entries_of core.old.clients) ≡ Some i }
     requires within { i < length (entries_of core.old.clients) }
@@ -152,7 +176,13 @@ fn ask_first<S: ClientSession>(core: &mut ServerCore<S>, alloc: Global, i: usize
 
 /// A client that has a name now waits for its file, if a folder has such files; none is asked for twice. Its
 /// name is known, and has at most so many bytes. It takes no memory.
-pub fn ask_file<S: ClientSession>(core: &mut ServerCore<S>, alloc: Global, cid: Cid, longest: usize, out: &mut Outbox)
+pub fn ask_file<S: ClientSession>(
+    core: &mut ServerCore<S>,
+    alloc: Global,
+    cid: Cid,
+    longest: usize,
+    out: &mut Outbox,
+)
     requires { HasRoom out.old 1 longest }
     ensures asked { (before : List Action) (c : Course) → CourseStands S.stands before core.old out.old c → HasNameWithin longest c.table cid.0 →
         CourseStands S.stands before core.new out.new (asked cid.0 c) }

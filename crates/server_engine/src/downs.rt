@@ -15,7 +15,11 @@ use vpn_links::{Note, Outbox};
 
 /// The client that has an engine connection ends with it. A connection of no client is reported. It takes no
 /// memory.
-pub fn engine_is_down<S: ClientSession + Drop>(core: &mut ServerCore<S>, conn: Conn, out: &mut Outbox)
+pub fn engine_is_down<S: ClientSession + Drop>(
+    core: &mut ServerCore<S>,
+    conn: Conn,
+    out: &mut Outbox,
+)
     requires room { HasRoom out.old 5 39 }
     requires nothing_staged { core.old.mark ≡ 0 }
     requires sound { IsSound S.goes_on S.count core.old }

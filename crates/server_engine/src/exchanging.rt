@@ -71,7 +71,10 @@ fn make_exchange<S: ClientSession>(
     ensures uses { Uses out.old out.new 2 93 }
 {
     let policy = policy_with(ours, client.session.cipher());
-    match client.session.exchange(&policy, peer_id, draw, to, now, out) {
+    match client
+        .session
+        .exchange(&policy, peer_id, draw, to, now, out)
+    {
         Ok(turn) => turn,
         Err(_) => unreachable!(),
     }
@@ -79,7 +82,12 @@ fn make_exchange<S: ClientSession>(
 
 /// The session of the client whose turn it is, at this place, makes its key exchange, and says what is to be
 /// done. It takes no memory.
-pub fn call_exchange<S: ClientSession>(core: &mut ServerCore<S>, i: usize, draw: &Draw, out: &mut Outbox) -> Turn
+pub fn call_exchange<S: ClientSession>(
+    core: &mut ServerCore<S>,
+    i: usize,
+    draw: &Draw,
+    out: &mut Outbox,
+) -> Turn
     requires room { HasRoom out.old 2 93 }
     requires ready { MayExchangeNow S.may_exchange core.old i }
     requires sound { IsSound S.goes_on S.count core.old }
@@ -107,7 +115,12 @@ pub fn call_exchange<S: ClientSession>(core: &mut ServerCore<S>, i: usize, draw:
 
 /// The client whose turn it is, at this place, makes its key exchange, and ends where its session says so. It
 /// takes no memory.
-pub fn exchange_keys<S: ClientSession + Drop>(core: &mut ServerCore<S>, i: usize, draw: &Draw, out: &mut Outbox)
+pub fn exchange_keys<S: ClientSession + Drop>(
+    core: &mut ServerCore<S>,
+    i: usize,
+    draw: &Draw,
+    out: &mut Outbox,
+)
     requires room { HasRoom out.old 7 132 }
     requires ready { MayExchangeNow S.may_exchange core.old i }
     requires sound { IsSound S.goes_on S.count core.old }

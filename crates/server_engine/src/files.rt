@@ -81,7 +81,12 @@ fn lack_file<S: ClientSession + Drop>(
 }
 
 // The client whose turn it is has a file that was read. It is disabled, or goes on with the file.
-fn accept_file<S: ClientSession + Drop>(core: &mut ServerCore<S>, cid: Cid, file: Ccd, out: &mut Outbox) -> Option<Ccd>
+fn accept_file<S: ClientSession + Drop>(
+    core: &mut ServerCore<S>,
+    cid: Cid,
+    file: Ccd,
+    out: &mut Outbox,
+) -> Option<Ccd>
     requires room { HasRoom out.old 5 39 }
     requires turn { cid ≡ core.old.turn }
     requires sound { IsSound S.goes_on S.count core.old }

@@ -80,7 +80,11 @@ fn pass_at<S: ClientSession>(core: &mut ServerCore<S>, i: usize)
 
 /// Takes the next message of the client whose turn it is, at this place. An empty one does nothing, one that is
 /// not a request is reported, and a request is to be answered by the caller. It takes no memory.
-pub fn take_message<S: ClientSession>(core: &mut ServerCore<S>, i: usize, out: &mut Outbox) -> Waiting
+pub fn take_message<S: ClientSession>(
+    core: &mut ServerCore<S>,
+    i: usize,
+    out: &mut Outbox,
+) -> Waiting
     requires room { HasRoom out.old 1 0 }
     requires place { place_of core.old.turn.0 (entries_of core.old.clients) ≡ Some i }
     requires within { i < length (entries_of core.old.clients) }

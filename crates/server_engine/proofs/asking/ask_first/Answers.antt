@@ -1,4 +1,4 @@
-use Rattle.std.proofs.Common.{List, [], Option, Some, None, sym, subst, ap, ◌∙◌}
+use Rattle.std.proofs.Common.{[], sym, subst, ap, ◌∙◌}
 use Rattle.std.specs.Prelude.{unwrap_or}
 use Rattle.ccd_files.specs.ClientFile.{no_ccd}
 use Rattle.server_table.specs.Engine.{asked_in}

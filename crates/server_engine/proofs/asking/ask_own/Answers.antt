@@ -1,9 +1,6 @@
-use Rattle.std.proofs.Common.{ℕ, List, [], ◌∷◌, ◌++◌, Some, sym, subst, ap, ◌∙◌}
+use Rattle.std.proofs.Common.{ℕ, List, [], subst, ap, ◌∙◌}
 use Rattle.std.specs.Prelude.{unwrap_or}
-use Rattle.vpn_links.specs.Actions.{Ask, Holds}
-use Rattle.peer_table.specs.Peer.{Peer}
 use Rattle.server_table.specs.Table.{Awaited, Client}
-use Rattle.server_engine.specs.Files.{NameFits}
 use Rattle.server_engine.proofs.Asked.{known_name, same_client, set_after}
 use Rattle.server_engine.proofs.Judged.{state_at}
 use Rattle.server_engine.proofs.asking.ask_own.Goals as goal

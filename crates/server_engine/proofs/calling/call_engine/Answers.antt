@@ -1,5 +1,4 @@
-use Rattle.std.proofs.Common.{ℕ, refl, sym, subst, ap, ◌∙◌}
-use Rattle.std.specs.Prelude.{unwrap_or}
+use Rattle.std.proofs.Common.{ℕ, refl, subst, ap, ◌∙◌}
 use Rattle.client_table.specs.Tables.{with_value_at}
 use Rattle.peer_table.specs.EngineAnswers.{engine_came}
 use Rattle.server_table.specs.Courses.{acted}

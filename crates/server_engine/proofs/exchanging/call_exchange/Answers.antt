@@ -1,4 +1,4 @@
-use Rattle.std.proofs.Common.{ℕ, refl, sym, slice_get, subst, ap, ◌∙◌}
+use Rattle.std.proofs.Common.{ℕ, refl, slice_get, subst, ap, ◌∙◌}
 use Rattle.vpn_base.specs.declared.names.Policy.{Policy}
 use Rattle.client_table.specs.Tables.{entries_of, with_value_at}
 use Rattle.peer_table.specs.Exchange.{cipher_of, exchanged}
@@ -46,7 +46,7 @@ returns-clause-answer g c t x h here =
     c.make_exchange.ensures.answer x.session
     (subst (λ (x : Client). means c.value_at.result.now.session x.session) same (state_at means core t core.turn.0 c.args.i c.value_at.result.now there c.value_at.ensures.value).session)
     ∙ ap (λ (id : ℕ). (exchanged (policy_with core.settings.ciphers (cipher_of x.session)) id c.args.draw.now x.session).answer)
-        (peer_id_is (slice_get (entries_of core.clients) c.args.i) there.entry id there.entry_there c.peer_id_at-peer_id.ensures.peer_id ∙ there.stands.peer_id ∙ ap (λ (x : Client). x.peer_id) same)
+    (peer_id_is (slice_get (entries_of core.clients) c.args.i) there.entry id there.entry_there c.peer_id_at-peer_id.ensures.peer_id ∙ there.stands.peer_id ∙ ap (λ (x : Client). x.peer_id) same)
     ∙ ap (λ (ours : Policy). (exchanged (policy_with ours (cipher_of x.session)) x.peer_id c.args.draw.now x.session).answer) (ap (λ s. s.ciphers) h.settings)
 
 pub returns-clause-sound : goal.returns-clause-sound

@@ -1,4 +1,4 @@
-use Rattle.std.proofs.Common.{◌≡◌, slice_get, option_map, sym, ap, ◌∙◌}
+use Rattle.std.proofs.Common.{slice_get, option_map, sym, ap, ◌∙◌}
 use Rattle.std.specs.Option.{option_copied}
 use Rattle.client_table.specs.Changes.{item_at}
 use Rattle.client_table.specs.Tables.{entries_of}

@@ -1,4 +1,4 @@
-use Rattle.std.proofs.Common.{None, refl, sym, subst, ap}
+use Rattle.std.proofs.Common.{None, sym, subst, ap}
 use Rattle.server_table.specs.Engine.{file_accepted}
 use Rattle.server_engine.specs.internal.Asked.{IsTakenAs}
 use Rattle.server_engine.proofs.Judged.{sound_but}

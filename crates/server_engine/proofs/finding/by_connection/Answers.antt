@@ -5,10 +5,12 @@ use Rattle.server_engine.proofs.finding.by_connection.Goals as goal
 
 pub loop-i-preserved : goal.loop-i-preserved
 loop-i-preserved g c =
-    let core = c.args.core.now in
-    (omega (arith, c.loop-i-test.true), c.loop-i.invariant.1,
-    one_more g.S.ClientSession.stands c.args.conn c.loop-i.i (entries_of core.clients) c.look_at.result.now c.loop-i.invariant.2 c.look_at.ensures
-    (λ p stands. sym (c.has_conn.ensures p stands) ∙ c.if-has_conn.false))
+    let core = c.args.core.now in (
+      omega (arith, c.loop-i-test.true),
+      c.loop-i.invariant.1,
+      one_more g.S.ClientSession.stands c.args.conn c.loop-i.i (entries_of core.clients) c.look_at.result.now c.loop-i.invariant.2 c.look_at.ensures
+          (λ p stands. sym (c.has_conn.ensures p stands) ∙ c.if-has_conn.false),
+    )
 
 pub returns-then-has_conn : goal.returns-then-has_conn
 returns-then-has_conn g c t h =
