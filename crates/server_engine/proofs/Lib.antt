@@ -8,3 +8,4 @@ mod Gone
 mod Ready
 mod Begun
 mod Passed
+mod Names

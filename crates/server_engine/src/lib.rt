@@ -10,6 +10,7 @@ mod exchanging;
 mod files;
 mod finding;
 mod going_on;
+mod laws;
 mod messages;
 mod unread;
 
@@ -22,5 +23,6 @@ pub use exchanging::{call_exchange, exchange_keys};
 pub use files::take_file;
 pub use finding::by_connection;
 pub use going_on::{Rest, go_on, take_plain};
+pub use laws::names_fit;
 pub use messages::{Waiting, take_message};
 pub use unread::judge_unread;
