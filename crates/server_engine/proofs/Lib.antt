@@ -1,0 +1,11 @@
+mod Found
+mod Judged
+mod Asked
+mod Taken
+mod Called
+mod Exchanged
+mod Gone
+mod Ready
+mod Begun
+mod Passed
+mod Names

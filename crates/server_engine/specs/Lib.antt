@@ -1,0 +1,5 @@
+pub mod Calls
+pub mod Files
+pub mod Messages
+pub mod Rests
+pub mod internal
