@@ -164,11 +164,11 @@ module _ {S : Type 0} (core : ServerCore S) (n i : ℕ) (v w : ClientState S) (c
   value_now at = ap (λ es. option_map (λ e. e.value) (slice_get es i)) is.entries_are ∙ at_same i v w (entries_of core.clients) at
 
   -- all others go on
-  pub sound_but_it : (goes_on : S → Type 0) (count : S → ℕ) → table.place_of n (entries_of core.clients) ≡ Some i → IsSound goes_on count core
-      → IsSoundBut goes_on count n (record core { clients = ct })
-  sound_but_it goes_on count place h = record {
+  pub sound_but_it : (goes_on : S → Type 0) (count since : S → ℕ) → table.place_of n (entries_of core.clients) ≡ Some i → IsSound goes_on count since core
+      → IsSoundBut goes_on count since n (record core { clients = ct })
+  sound_but_it goes_on count since place h = record {
     sessions = λ j e at apart.
-        all_at (GoesOn goes_on count (core.events + 1)) (entries_of core.clients) j e h.sessions
+        all_at (GoesOn goes_on count since (core.events + 1) core.moment.0) (entries_of core.clients) j e h.sessions
         (at_other (table.with_value w) i j (entries_of core.clients) e (sym (ap (λ es. slice_get es j) is.entries_are) ∙ at)
         (λ same. apart (place_kept place ∙ ap Some same)));
     most = subst (λ k. k ≤ 4096) (sym is.most_is) h.most;

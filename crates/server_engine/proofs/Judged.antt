@@ -39,9 +39,9 @@ all_at P (x ∷ xs) zero v all there = subst P (ap (λ (o : Option _). unwrap_or
 all_at P (x ∷ xs) (suc i) v all there = all_at P xs i v all.1 there
 
 -- a sound core is sound but for any client
-pub sound_but : {S : Type 0} (goes_on : S → Type 0) (count : S → ℕ) (n : ℕ) (core : ServerCore S) → IsSound goes_on count core → IsSoundBut goes_on count n core
-sound_but goes_on count n core h = record {
-  sessions = λ i e at apart. all_at (GoesOn goes_on count (core.events + 1)) (entries_of core.clients) i e h.sessions at;
+pub sound_but : {S : Type 0} (goes_on : S → Type 0) (count since : S → ℕ) (n : ℕ) (core : ServerCore S) → IsSound goes_on count since core → IsSoundBut goes_on count since n core
+sound_but goes_on count since n core h = record {
+  sessions = λ i e at apart. all_at (GoesOn goes_on count since (core.events + 1) core.moment.0) (entries_of core.clients) i e h.sessions at;
   most = h.most;
   admitted = h.admitted;
   connections = h.connections;
@@ -53,11 +53,11 @@ goes_for goes_on None v all at = absurd (false≢true (ap is_some at))
 goes_for goes_on (Some e) v all at = subst (λ (v : ClientState _). goes_on v.session) (ap (λ o. unwrap_or o v) at) (all e refl)
 
 -- the session at a place of a sound core goes on
-pub goes_at : {S : Type 0} (goes_on : S → Type 0) (count : S → ℕ) (core : ServerCore S) (i : ℕ) (v : ClientState S) → IsSound goes_on count core
+pub goes_at : {S : Type 0} (goes_on : S → Type 0) (count since : S → ℕ) (core : ServerCore S) (i : ℕ) (v : ClientState S) → IsSound goes_on count since core
     → option_map (λ e. e.value) (slice_get (entries_of core.clients) i) ≡ Some v → goes_on v.session
-goes_at goes_on count core i v h at =
+goes_at goes_on count since core i v h at =
     goes_for goes_on (slice_get (entries_of core.clients) i) v
-    (λ e there. (all_at (GoesOn goes_on count (core.events + 1)) (entries_of core.clients) i e h.sessions there).session) at
+    (λ e there. (all_at (GoesOn goes_on count since (core.events + 1) core.moment.0) (entries_of core.clients) i e h.sessions there).session) at
 
 -- ---- unread bytes
 

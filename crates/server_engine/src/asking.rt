@@ -48,7 +48,7 @@ pub(crate) fn set_file<S: ClientSession>(core: &mut ServerCore<S>, i: usize, fil
     ensures set { (t : Table) (n : ℕ) (state : FileState) → CoreStands S.stands core.old t → place_of n (entries_of core.old.clients) ≡ Some i →
         ((x : Client) → client_here t n ≡ Some x → FileStands x.session.name file state) →
         CoreStands S.stands core.new (with_client n (λ x. record x { file = state }) t) }
-    ensures sound { IsSound S.goes_on S.count core.old → IsSound S.goes_on S.count core.new }
+    ensures sound { IsSound S.goes_on S.count S.since core.old → IsSound S.goes_on S.count S.since core.new }
     ensures ready { StaysReady S.may_exchange core.old core.new }
     ensures turn_stays { core.new.turn ≡ core.old.turn }
     ensures mark_stays { core.new.mark ≡ core.old.mark }
@@ -97,7 +97,7 @@ fn ask_own<S: ClientSession>(
     ensures asked { (before : List Action) (c : Course) (x : Client) → CourseStands S.stands before core.old out.old c →
         client_here c.table cid.0 ≡ Some x → NameFits longest x.session.name →
         CourseStands S.stands before core.new out.new (asked_for cid.0 (unwrap_or x.session.name []) c) }
-    ensures sound { IsSound S.goes_on S.count core.old → IsSound S.goes_on S.count core.new }
+    ensures sound { IsSound S.goes_on S.count S.since core.old → IsSound S.goes_on S.count S.since core.new }
     ensures ready { StaysReady S.may_exchange core.old core.new }
     ensures uses { Uses out.old out.new 1 longest }
     ensures turn_stays { core.new.turn ≡ core.old.turn }
@@ -120,7 +120,7 @@ pub(crate) fn ask_default<S: ClientSession>(
     requires within { i < length (entries_of core.old.clients) }
     ensures asked { (before : List Action) (c : Course) → CourseStands S.stands before core.old out.old c →
         CourseStands S.stands before core.new out.new (asked_for cid.0 default_name c) }
-    ensures sound { IsSound S.goes_on S.count core.old → IsSound S.goes_on S.count core.new }
+    ensures sound { IsSound S.goes_on S.count S.since core.old → IsSound S.goes_on S.count S.since core.new }
     ensures ready { StaysReady S.may_exchange core.old core.new }
     ensures uses { Uses out.old out.new 1 7 }
     ensures turn_stays { core.new.turn ≡ core.old.turn }
@@ -162,7 +162,7 @@ fn ask_first<S: ClientSession>(
     ensures asked { (before : List Action) (c : Course) (x : Client) → CourseStands S.stands before core.old out.old c →
         client_here c.table cid.0 ≡ Some x → NameFits longest x.session.name →
         CourseStands S.stands before core.new out.new (asked_in cid.0 (unwrap_or x.session.name []) c c.table.settings.ccd) }
-    ensures sound { IsSound S.goes_on S.count core.old → IsSound S.goes_on S.count core.new }
+    ensures sound { IsSound S.goes_on S.count S.since core.old → IsSound S.goes_on S.count S.since core.new }
     ensures ready { StaysReady S.may_exchange core.old core.new }
     ensures uses { Uses out.old out.new 1 longest }
     ensures turn_stays { core.new.turn ≡ core.old.turn }
@@ -186,7 +186,7 @@ pub fn ask_file<S: ClientSession>(
     requires { HasRoom out.old 1 longest }
     ensures asked { (before : List Action) (c : Course) → CourseStands S.stands before core.old out.old c → HasNameWithin longest c.table cid.0 →
         CourseStands S.stands before core.new out.new (asked cid.0 c) }
-    ensures sound { IsSound S.goes_on S.count core.old → IsSound S.goes_on S.count core.new }
+    ensures sound { IsSound S.goes_on S.count S.since core.old → IsSound S.goes_on S.count S.since core.new }
     ensures ready { StaysReady S.may_exchange core.old core.new }
     ensures uses { Uses out.old out.new 1 longest }
     ensures turn_stays { core.new.turn ≡ core.old.turn }

@@ -38,7 +38,7 @@ pub fn know_file<S: ClientSession>(core: &mut ServerCore<S>, i: usize, file: Ccd
     requires within { i < length (entries_of core.old.clients) }
     ensures known { (before : List Action) (out : Contents) (c : Course) → CourseStands S.stands before core.old out c →
         CourseStands S.stands before core.new out (file_is core.old.turn.0 (Known file) c) }
-    ensures sound { IsSound S.goes_on S.count core.old → IsSound S.goes_on S.count core.new }
+    ensures sound { IsSound S.goes_on S.count S.since core.old → IsSound S.goes_on S.count S.since core.new }
     ensures ready { StaysReady S.may_exchange core.old core.new }
     ensures turn_stays { core.new.turn ≡ core.old.turn }
     ensures mark_stays { core.new.mark ≡ core.old.mark }
@@ -56,10 +56,10 @@ pub fn begin_exchange<S: ClientSession + Drop>(
 ) -> bool
     requires room { HasRoom out.old 7 132 }
     requires ready { MayExchangeNow S.may_exchange core.old i }
-    requires sound { IsSound S.goes_on S.count core.old }
+    requires sound { IsSound S.goes_on S.count S.since core.old }
     ensures begun { (before : List Action) (c : Course) → CourseStands S.stands before core.old out.old c →
         HasBegun S.stands before core.new out.new draw.now core.old.turn.0 c result }
-    ensures sound { IsSound S.goes_on S.count core.new }
+    ensures sound { IsSound S.goes_on S.count S.since core.new }
     ensures uses { Uses out.old out.new 7 132 }
     ensures turn_stays { core.new.turn ≡ core.old.turn }
     ensures mark_stays { core.new.mark ≡ core.old.mark }

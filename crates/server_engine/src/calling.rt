@@ -38,6 +38,7 @@ fn take_answer<S: ClientSession>(
     ensures others { client.new ≡ record client.old { session = client.new.session } }
     ensures goes_on { GoesOnUnlessOver (S.goes_on client.new.session) result }
     ensures count { S.count client.new.session ≡ S.count client.old.session }
+    ensures since { S.since client.new.session ≡ S.since client.old.session }
     ensures exchange { S.may_exchange client.new.session }
     ensures room { HasRoom out.new 2 93 }
     ensures uses { Uses out.old out.new room.0 room.1 }
@@ -63,13 +64,13 @@ pub fn call_engine<S: ClientSession>(
     requires place { place_of core.old.turn.0 (entries_of core.old.clients) ≡ Some i }
     requires within { i < length (entries_of core.old.clients) }
     requires named { IsNamedAt core.old i }
-    requires sound { IsSound S.goes_on S.count core.old }
+    requires sound { IsSound S.goes_on S.count S.since core.old }
     ensures acted { (before : List Action) (c : Course) (x : Client) → CourseStands S.stands before core.old out.old c → client_here c.table core.old.turn.0 ≡ Some x →
         CourseStands S.stands before core.new out.new (acted core.old.turn.0 x.address (engine_came kind.now c.table.moment x.session) c) }
     ensures answer { (t : Table) (x : Client) → CoreStands S.stands core.old t → client_here t core.old.turn.0 ≡ Some x →
         result ≡ (engine_came kind.now t.moment x.session).answer }
-    ensures sound { GoesOnUnlessOver (IsSound S.goes_on S.count core.new) result }
-    ensures sound_but { IsSoundBut S.goes_on S.count core.old.turn.0 core.new }
+    ensures sound { GoesOnUnlessOver (IsSound S.goes_on S.count S.since core.new) result }
+    ensures sound_but { IsSoundBut S.goes_on S.count S.since core.old.turn.0 core.new }
     ensures ready { MayExchangeNow S.may_exchange core.new i }
     ensures room { HasRoom out.new 2 93 }
     ensures uses { Uses out.old out.new room.0 room.1 }
@@ -88,11 +89,11 @@ pub fn call_engine<S: ClientSession>(
 /// The client whose turn it is ends where its session says so. It takes no memory.
 pub fn end_if_over<S: ClientSession + Drop>(core: &mut ServerCore<S>, turn: Turn, out: &mut Outbox)
     requires room { HasRoom out.old 5 39 }
-    requires sound { GoesOnUnlessOver (IsSound S.goes_on S.count core.old) turn }
-    requires sound_but { IsSoundBut S.goes_on S.count core.old.turn.0 core.old }
+    requires sound { GoesOnUnlessOver (IsSound S.goes_on S.count S.since core.old) turn }
+    requires sound_but { IsSoundBut S.goes_on S.count S.since core.old.turn.0 core.old }
     ensures turned { (before : List Action) (c : Course) → CourseStands S.stands before core.old out.old c →
         CourseStands S.stands before core.new out.new (turned core.old.turn.0 turn c) }
-    ensures sound { IsSound S.goes_on S.count core.new }
+    ensures sound { IsSound S.goes_on S.count S.since core.new }
     ensures uses { Uses out.old out.new 5 39 }
     ensures turn_stays { core.new.turn ≡ core.old.turn }
     ensures mark_stays { core.new.mark ≡ core.old.mark }
@@ -121,10 +122,10 @@ pub fn send_text<S: ClientSession + Drop>(
     requires place { place_of core.old.turn.0 (entries_of core.old.clients) ≡ Some i }
     requires within { i < length (entries_of core.old.clients) }
     requires named { IsNamedAt core.old i }
-    requires sound { IsSound S.goes_on S.count core.old }
+    requires sound { IsSound S.goes_on S.count S.since core.old }
     ensures sent { (before : List Action) (c : Course) (x : Client) → CourseStands S.stands before core.old out.old c → client_here c.table core.old.turn.0 ≡ Some x →
         CourseStands S.stands before core.new out.new (text_acted core.old.turn.0 x c (engine_came kind.now c.table.moment x.session)) }
-    ensures sound { IsSound S.goes_on S.count core.new }
+    ensures sound { IsSound S.goes_on S.count S.since core.new }
     ensures uses { Uses out.old out.new (room.0 + 5) (room.1 + 39) }
     ensures turn_stays { core.new.turn ≡ core.old.turn }
     ensures mark_stays { core.new.mark ≡ core.old.mark }

@@ -68,6 +68,7 @@ fn make_exchange<S: ClientSession>(
     ensures others { client.new ≡ record client.old { session = client.new.session } }
     ensures goes_on { GoesOnUnlessOver (S.goes_on client.new.session) result }
     ensures count { S.count client.new.session ≡ S.count client.old.session }
+    ensures since { S.since client.new.session ≡ S.since client.old.session }
     ensures uses { Uses out.old out.new 2 93 }
 {
     let policy = policy_with(ours, client.session.cipher());
@@ -90,14 +91,14 @@ pub fn call_exchange<S: ClientSession>(
 ) -> Turn
     requires room { HasRoom out.old 2 93 }
     requires ready { MayExchangeNow S.may_exchange core.old i }
-    requires sound { IsSound S.goes_on S.count core.old }
+    requires sound { IsSound S.goes_on S.count S.since core.old }
     ensures acted { (before : List Action) (c : Course) (x : Client) → CourseStands S.stands before core.old out.old c → client_here c.table core.old.turn.0 ≡ Some x →
         CourseStands S.stands before core.new out.new
         (acted core.old.turn.0 x.address (exchanged (policy_with c.table.settings.ciphers (cipher_of x.session)) x.peer_id draw.now x.session) c) }
     ensures answer { (t : Table) (x : Client) → CoreStands S.stands core.old t → client_here t core.old.turn.0 ≡ Some x →
         result ≡ (exchanged (policy_with t.settings.ciphers (cipher_of x.session)) x.peer_id draw.now x.session).answer }
-    ensures sound { GoesOnUnlessOver (IsSound S.goes_on S.count core.new) result }
-    ensures sound_but { IsSoundBut S.goes_on S.count core.old.turn.0 core.new }
+    ensures sound { GoesOnUnlessOver (IsSound S.goes_on S.count S.since core.new) result }
+    ensures sound_but { IsSoundBut S.goes_on S.count S.since core.old.turn.0 core.new }
     ensures uses { Uses out.old out.new 2 93 }
     ensures turn_stays { core.new.turn ≡ core.old.turn }
     ensures mark_stays { core.new.mark ≡ core.old.mark }
@@ -123,12 +124,12 @@ pub fn exchange_keys<S: ClientSession + Drop>(
 )
     requires room { HasRoom out.old 7 132 }
     requires ready { MayExchangeNow S.may_exchange core.old i }
-    requires sound { IsSound S.goes_on S.count core.old }
+    requires sound { IsSound S.goes_on S.count S.since core.old }
     ensures exchanged { (before : List Action) (c : Course) (x : Client) → CourseStands S.stands before core.old out.old c → client_here c.table core.old.turn.0 ≡ Some x →
         CourseStands S.stands before core.new out.new
         (turned core.old.turn.0 (exchanged (policy_with c.table.settings.ciphers (cipher_of x.session)) x.peer_id draw.now x.session).answer
         (acted core.old.turn.0 x.address (exchanged (policy_with c.table.settings.ciphers (cipher_of x.session)) x.peer_id draw.now x.session) c)) }
-    ensures sound { IsSound S.goes_on S.count core.new }
+    ensures sound { IsSound S.goes_on S.count S.since core.new }
     ensures uses { Uses out.old out.new 7 132 }
     ensures turn_stays { core.new.turn ≡ core.old.turn }
     ensures mark_stays { core.new.mark ≡ core.old.mark }

@@ -60,11 +60,11 @@ fn lack_file<S: ClientSession + Drop>(
     requires turn { cid ≡ core.old.turn }
     requires place { place_of cid.0 (entries_of core.old.clients) ≡ Some i }
     requires within { i < length (entries_of core.old.clients) }
-    requires sound { IsSound S.goes_on S.count core.old }
+    requires sound { IsSound S.goes_on S.count S.since core.old }
     ensures lacking { (before : List Action) (c : Course) (draw : Draw) (name : List ℕ) → CourseStands S.stands before core.old out.old c →
         is_default ≡ bytes_eq name default_name →
         IsTakenAs S.stands before core.new out.new draw cid.0 c (file_lacking draw cid.0 name c c.table.settings.exclusive) result }
-    ensures sound { IsSound S.goes_on S.count core.new }
+    ensures sound { IsSound S.goes_on S.count S.since core.new }
     ensures uses { Uses out.old out.new 5 39 }
     ensures turn_stays { core.new.turn ≡ core.old.turn }
     ensures mark_stays { core.new.mark ≡ core.old.mark }
@@ -89,10 +89,10 @@ fn accept_file<S: ClientSession + Drop>(
 ) -> Option<Ccd>
     requires room { HasRoom out.old 5 39 }
     requires turn { cid ≡ core.old.turn }
-    requires sound { IsSound S.goes_on S.count core.old }
+    requires sound { IsSound S.goes_on S.count S.since core.old }
     ensures accepted { (before : List Action) (c : Course) (draw : Draw) → CourseStands S.stands before core.old out.old c →
         IsTakenAs S.stands before core.new out.new draw cid.0 c (file_accepted draw cid.0 c file file.disable) result }
-    ensures sound { IsSound S.goes_on S.count core.new }
+    ensures sound { IsSound S.goes_on S.count S.since core.new }
     ensures uses { Uses out.old out.new 5 39 }
     ensures turn_stays { core.new.turn ≡ core.old.turn }
     ensures mark_stays { core.new.mark ≡ core.old.mark }
@@ -118,11 +118,11 @@ fn give_file<S: ClientSession + Drop>(
     requires turn { cid ≡ core.old.turn }
     requires place { place_of cid.0 (entries_of core.old.clients) ≡ Some i }
     requires within { i < length (entries_of core.old.clients) }
-    requires sound { IsSound S.goes_on S.count core.old }
+    requires sound { IsSound S.goes_on S.count S.since core.old }
     ensures given { (before : List Action) (c : Course) (draw : Draw) (name : List ℕ) (told : FileAnswer) → CourseStands S.stands before core.old out.old c →
         is_default ≡ bytes_eq name default_name → Tells answer told →
         IsTakenAs S.stands before core.new out.new draw cid.0 c (file_given draw cid.0 name c told) result }
-    ensures sound { IsSound S.goes_on S.count core.new }
+    ensures sound { IsSound S.goes_on S.count S.since core.new }
     ensures uses { Uses out.old out.new 5 39 }
     ensures turn_stays { core.new.turn ≡ core.old.turn }
     ensures mark_stays { core.new.mark ≡ core.old.mark }
@@ -153,10 +153,10 @@ pub fn take_file<S: ClientSession + Drop>(
 ) -> Option<Ccd>
     requires room { HasRoom out.old 5 39 }
     requires turn { cid ≡ core.old.turn }
-    requires sound { IsSound S.goes_on S.count core.old }
+    requires sound { IsSound S.goes_on S.count S.since core.old }
     ensures taken { (before : List Action) (c : Course) (draw : Draw) (told : FileAnswer) → CourseStands S.stands before core.old out.old c → Tells answer told →
         IsTaken S.stands before core.new out.new draw cid told c result }
-    ensures sound { IsSound S.goes_on S.count core.new }
+    ensures sound { IsSound S.goes_on S.count S.since core.new }
     ensures uses { Uses out.old out.new 5 39 }
     ensures turn_stays { core.new.turn ≡ core.old.turn }
     ensures mark_stays { core.new.mark ≡ core.old.mark }

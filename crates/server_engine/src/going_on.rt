@@ -47,10 +47,10 @@ fn ask_and_judge<S: ClientSession + Drop>(
 )
     requires room { HasRoom out.old 6 (longest + 39) }
     requires turn { cid ≡ core.old.turn }
-    requires sound { IsSound S.goes_on S.count core.old }
+    requires sound { IsSound S.goes_on S.count S.since core.old }
     ensures asked { (before : List Action) (c : Course) → CourseStands S.stands before core.old out.old c → HasNameWithin longest c.table cid.0 →
         CourseStands S.stands before core.new out.new (unread_judged cid.0 (asked cid.0 c)) }
-    ensures sound { IsSound S.goes_on S.count core.new }
+    ensures sound { IsSound S.goes_on S.count S.since core.new }
     ensures uses { Uses out.old out.new 6 (longest + 39) }
     ensures turn_stays { core.new.turn ≡ core.old.turn }
     ensures mark_stays { core.new.mark ≡ core.old.mark }
@@ -69,12 +69,12 @@ pub fn go_on<S: ClientSession + Drop>(
     out: &mut Outbox,
 ) -> Rest
     requires room { HasRoom out.old 6 (longest + 39) }
-    requires sound { GoesOnUnlessOver (IsSound S.goes_on S.count core.old) turn }
-    requires sound_but { IsSoundBut S.goes_on S.count core.old.turn.0 core.old }
+    requires sound { GoesOnUnlessOver (IsSound S.goes_on S.count S.since core.old) turn }
+    requires sound_but { IsSoundBut S.goes_on S.count S.since core.old.turn.0 core.old }
     ensures gone_on { (before : List Action) (c : Course) (draw : Draw) → CourseStands S.stands before core.old out.old c →
         HasNameFor longest c.table core.old.turn.0 turn → Leads S.stands before core.new out.new draw core.old.turn.0 (gone_on draw core.old.turn.0 c turn) result }
     ensures ready { IfExchange result (StaysReady S.may_exchange core.old core.new) }
-    ensures sound { IsSound S.goes_on S.count core.new }
+    ensures sound { IsSound S.goes_on S.count S.since core.new }
     ensures uses { Uses out.old out.new 6 (longest + 39) }
     ensures turn_stays { core.new.turn ≡ core.old.turn }
     ensures mark_stays { core.new.mark ≡ core.old.mark }
@@ -117,14 +117,14 @@ pub fn take_plain<S: ClientSession + Drop>(
     requires place { place_of core.old.turn.0 (entries_of core.old.clients) ≡ Some i }
     requires within { i < length (entries_of core.old.clients) }
     requires named { IsNamedAt core.old i }
-    requires sound { IsSound S.goes_on S.count core.old }
+    requires sound { IsSound S.goes_on S.count S.since core.old }
     ensures came { (before : List Action) (c : Course) (x : Client) (draw : Draw) → CourseStands S.stands before core.old out.old c →
         client_here c.table core.old.turn.0 ≡ Some x →
         NameFitsFor longest (engine_came kind.now c.table.moment x.session).peer (engine_came kind.now c.table.moment x.session).answer →
         Leads S.stands before core.new out.new draw core.old.turn.0
         (engine_acted draw core.old.turn.0 x c (engine_came kind.now c.table.moment x.session)) result }
     ensures ready { IfExchange result (MayExchangeNow S.may_exchange core.new i) }
-    ensures sound { IsSound S.goes_on S.count core.new }
+    ensures sound { IsSound S.goes_on S.count S.since core.new }
     ensures uses { Uses out.old out.new (room.0 + 6) (room.1 + (longest + 39)) }
     ensures turn_stays { core.new.turn ≡ core.old.turn }
     ensures mark_stays { core.new.mark ≡ core.old.mark }

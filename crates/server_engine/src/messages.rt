@@ -57,6 +57,7 @@ fn pass<S: ClientSession>(client: &mut ClientState<S>)
     ensures others { client.new ≡ record client.old { session = client.new.session } }
     ensures goes_on { S.goes_on client.new.session }
     ensures count { S.count client.new.session ≡ S.count client.old.session }
+    ensures since { S.since client.new.session ≡ S.since client.old.session }
 {
     client.session.pass_message();
 }
@@ -65,10 +66,10 @@ fn pass<S: ClientSession>(client: &mut ClientState<S>)
 fn pass_at<S: ClientSession>(core: &mut ServerCore<S>, i: usize)
     requires place { place_of core.old.turn.0 (entries_of core.old.clients) ≡ Some i }
     requires within { i < length (entries_of core.old.clients) }
-    requires sound { IsSound S.goes_on S.count core.old }
+    requires sound { IsSound S.goes_on S.count S.since core.old }
     ensures passed { (before : List Action) (out : Contents) (c : Course) → CourseStands S.stands before core.old out c →
         CourseStands S.stands before core.new out (client_changed core.old.turn.0 (λ x. record x { session = after_message x.session }) c) }
-    ensures sound { IsSound S.goes_on S.count core.new }
+    ensures sound { IsSound S.goes_on S.count S.since core.new }
     ensures turn_stays { core.new.turn ≡ core.old.turn }
     ensures mark_stays { core.new.mark ≡ core.old.mark }
 {
@@ -88,10 +89,10 @@ pub fn take_message<S: ClientSession>(
     requires room { HasRoom out.old 1 0 }
     requires place { place_of core.old.turn.0 (entries_of core.old.clients) ≡ Some i }
     requires within { i < length (entries_of core.old.clients) }
-    requires sound { IsSound S.goes_on S.count core.old }
+    requires sound { IsSound S.goes_on S.count S.since core.old }
     ensures taken { (before : List Action) (c : Course) → CourseStands S.stands before core.old out.old c →
         IsPassed S.stands before core.new out.new core.old.turn.0 c result }
-    ensures sound { IsSound S.goes_on S.count core.new }
+    ensures sound { IsSound S.goes_on S.count S.since core.new }
     ensures uses { Uses out.old out.new 1 0 }
     ensures turn_stays { core.new.turn ≡ core.old.turn }
     ensures mark_stays { core.new.mark ≡ core.old.mark }

@@ -29,10 +29,10 @@ fn has_too_much<S: ClientSession>(session: &S) -> bool
 pub fn judge_unread<S: ClientSession + Drop>(core: &mut ServerCore<S>, cid: Cid, out: &mut Outbox)
     requires room { HasRoom out.old 5 39 }
     requires turn { cid ≡ core.old.turn }
-    requires sound { IsSound S.goes_on S.count core.old }
+    requires sound { IsSound S.goes_on S.count S.since core.old }
     ensures judged { (before : List Action) (c : Course) → CourseStands S.stands before core.old out.old c →
         CourseStands S.stands before core.new out.new (unread_judged cid.0 c) }
-    ensures sound { IsSound S.goes_on S.count core.new }
+    ensures sound { IsSound S.goes_on S.count S.since core.new }
     ensures uses { Uses out.old out.new 5 39 }
     ensures turn_stays { core.new.turn ≡ core.old.turn }
     ensures mark_stays { core.new.mark ≡ core.old.mark }

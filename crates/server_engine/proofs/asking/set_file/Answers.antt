@@ -1,4 +1,4 @@
-use Rattle.std.proofs.Common.{refl, sym, subst, ap}
+use Rattle.std.proofs.Common.{refl, sym, subst, ap, ◌≤◌}
 use Rattle.client_table.specs.Tables.{with_value_at}
 use Rattle.server_state.specs.declared.client.ClientState.{ClientState}
 use Rattle.server_engine.proofs.Asked.{file_set}
@@ -21,8 +21,9 @@ returns-clause-sound g c h =
     let w = c.put_file.new.client in
     c.a_changed_core_is_sound.ensures core (with_value_at core.clients c.args.i w) c.args.i v w h c.value_at.ensures.value
     (subst (λ (w : ClientState _). g.S.ClientSession.goes_on w.session) (sym c.put_file.ensures)
-    (goes_at g.S.ClientSession.goes_on g.S.ClientSession.count core c.args.i v h c.value_at.ensures.value))
+    (goes_at g.S.ClientSession.goes_on g.S.ClientSession.count g.S.ClientSession.since core c.args.i v h c.value_at.ensures.value))
     (ap (λ (w : ClientState _). g.S.ClientSession.count w.session) c.put_file.ensures)
+    (λ past. subst (λ n. n ≤ core.moment.0) (sym (ap (λ (w : ClientState _). g.S.ClientSession.since w.session) c.put_file.ensures)) past)
     (record { entries_are = c.lending_sets_the_value.ensures core.clients c.args.i w; admitted_is = refl; most_is = refl })
 
 pub returns-clause-ready : goal.returns-clause-ready

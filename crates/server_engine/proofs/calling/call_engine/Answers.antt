@@ -1,4 +1,4 @@
-use Rattle.std.proofs.Common.{ℕ, refl, subst, ap, ◌∙◌}
+use Rattle.std.proofs.Common.{ℕ, refl, subst, sym, ap, ◌≤◌, ◌∙◌}
 use Rattle.client_table.specs.Tables.{with_value_at}
 use Rattle.peer_table.specs.EngineAnswers.{engine_came}
 use Rattle.server_table.specs.Courses.{acted}
@@ -43,7 +43,7 @@ returns-clause-sound g c =
     let w = c.take_answer.new.client in
     goes_on_so c.take_answer.result
     (λ goes. c.a_changed_core_is_sound.ensures core (with_value_at core.clients c.args.i w) c.args.i c.value_at.result.now w c.requires.sound c.value_at.ensures.value goes
-    c.take_answer.ensures.count (record { entries_are = c.lending_sets_the_value.ensures core.clients c.args.i w; admitted_is = refl; most_is = refl }))
+    c.take_answer.ensures.count (λ past. subst (λ n. n ≤ core.moment.0) (sym c.take_answer.ensures.since) past) (record { entries_are = c.lending_sets_the_value.ensures core.clients c.args.i w; admitted_is = refl; most_is = refl }))
     c.take_answer.ensures.goes_on
 
 pub returns-clause-sound_but : goal.returns-clause-sound_but
@@ -52,7 +52,7 @@ returns-clause-sound_but g c =
     let w = c.take_answer.new.client in
     sound_but_it core core.turn.0 c.args.i c.value_at.result.now w (with_value_at core.clients c.args.i w)
     (record { entries_are = c.lending_sets_the_value.ensures core.clients c.args.i w; admitted_is = refl; most_is = refl })
-    g.S.ClientSession.goes_on g.S.ClientSession.count c.requires.place c.requires.sound
+    g.S.ClientSession.goes_on g.S.ClientSession.count g.S.ClientSession.since c.requires.place c.requires.sound
 
 pub returns-clause-ready : goal.returns-clause-ready
 returns-clause-ready g c =

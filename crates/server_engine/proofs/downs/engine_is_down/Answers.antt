@@ -21,4 +21,4 @@ returns-in-Some-clause-came g c before course h =
 
 pub returns-in-Some-clause-sound : goal.returns-in-Some-clause-sound
 returns-in-Some-clause-sound g c =
-    c.end.ensures.sound (sound_but g.S.ClientSession.goes_on g.S.ClientSession.count c.in-Some.cid.0 c.args.core.now c.requires.sound)
+    c.end.ensures.sound (sound_but g.S.ClientSession.goes_on g.S.ClientSession.count g.S.ClientSession.since c.in-Some.cid.0 c.args.core.now c.requires.sound)

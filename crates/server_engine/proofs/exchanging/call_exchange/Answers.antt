@@ -1,4 +1,4 @@
-use Rattle.std.proofs.Common.{ℕ, refl, slice_get, subst, ap, ◌∙◌}
+use Rattle.std.proofs.Common.{ℕ, refl, slice_get, subst, sym, ap, ◌≤◌, ◌∙◌}
 use Rattle.vpn_base.specs.declared.names.Policy.{Policy}
 use Rattle.client_table.specs.Tables.{entries_of, with_value_at}
 use Rattle.peer_table.specs.Exchange.{cipher_of, exchanged}
@@ -55,7 +55,7 @@ returns-clause-sound g c =
     let w = c.make_exchange.new.client in
     goes_on_so c.make_exchange.result
     (λ goes. c.a_changed_core_is_sound.ensures core (with_value_at core.clients c.args.i w) c.args.i c.value_at.result.now w c.requires.sound c.value_at.ensures.value goes
-    c.make_exchange.ensures.count (record { entries_are = c.lending_sets_the_value.ensures core.clients c.args.i w; admitted_is = refl; most_is = refl }))
+    c.make_exchange.ensures.count (λ past. subst (λ n. n ≤ core.moment.0) (sym c.make_exchange.ensures.since) past) (record { entries_are = c.lending_sets_the_value.ensures core.clients c.args.i w; admitted_is = refl; most_is = refl }))
     c.make_exchange.ensures.goes_on
 
 pub returns-clause-sound_but : goal.returns-clause-sound_but
@@ -64,4 +64,4 @@ returns-clause-sound_but g c =
     let w = c.make_exchange.new.client in
     sound_but_it core core.turn.0 c.args.i c.value_at.result.now w (with_value_at core.clients c.args.i w)
     (record { entries_are = c.lending_sets_the_value.ensures core.clients c.args.i w; admitted_is = refl; most_is = refl })
-    g.S.ClientSession.goes_on g.S.ClientSession.count c.requires.ready.place c.requires.sound
+    g.S.ClientSession.goes_on g.S.ClientSession.count g.S.ClientSession.since c.requires.ready.place c.requires.sound

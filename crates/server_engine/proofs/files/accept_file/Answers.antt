@@ -11,7 +11,7 @@ returns-then-file-clause-accepted g c before course draw h =
 
 pub returns-then-file-clause-sound : goal.returns-then-file-clause-sound
 returns-then-file-clause-sound g c =
-    c.end.ensures.sound (sound_but g.S.ClientSession.goes_on g.S.ClientSession.count c.args.cid.0 c.args.core.now c.requires.sound)
+    c.end.ensures.sound (sound_but g.S.ClientSession.goes_on g.S.ClientSession.count g.S.ClientSession.since c.args.cid.0 c.args.core.now c.requires.sound)
 
 pub returns-clause-accepted : goal.returns-clause-accepted
 returns-clause-accepted g c before course draw h = (h, ap (λ b. file_accepted draw c.args.cid.0 course c.args.file b) c.if-file.false)

@@ -16,7 +16,7 @@ returns-in-Refused-clause-given g c before course draw name told h is tells =
 
 pub returns-in-Refused-clause-sound : goal.returns-in-Refused-clause-sound
 returns-in-Refused-clause-sound g c =
-    c.end.ensures.sound (sound_but g.S.ClientSession.goes_on g.S.ClientSession.count c.args.cid.0 c.args.core.now c.requires.sound)
+    c.end.ensures.sound (sound_but g.S.ClientSession.goes_on g.S.ClientSession.count g.S.ClientSession.since c.args.cid.0 c.args.core.now c.requires.sound)
 
 pub returns-in-Missing-clause-given : goal.returns-in-Missing-clause-given
 returns-in-Missing-clause-given g c before course draw name told h is tells =
@@ -30,4 +30,4 @@ returns-in-Failed-clause-given g c before course draw name told h is tells =
 
 pub returns-in-Failed-clause-sound : goal.returns-in-Failed-clause-sound
 returns-in-Failed-clause-sound g c =
-    c.end-in-Failed.ensures.sound (sound_but g.S.ClientSession.goes_on g.S.ClientSession.count c.args.cid.0 c.args.core.now c.requires.sound)
+    c.end-in-Failed.ensures.sound (sound_but g.S.ClientSession.goes_on g.S.ClientSession.count g.S.ClientSession.since c.args.cid.0 c.args.core.now c.requires.sound)

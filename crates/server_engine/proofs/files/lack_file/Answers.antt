@@ -11,7 +11,7 @@ returns-then-core-clause-lacking g c before course draw name h is =
 
 pub returns-then-core-clause-sound : goal.returns-then-core-clause-sound
 returns-then-core-clause-sound g c =
-    c.end.ensures.sound (sound_but g.S.ClientSession.goes_on g.S.ClientSession.count c.args.cid.0 c.args.core.now c.requires.sound)
+    c.end.ensures.sound (sound_but g.S.ClientSession.goes_on g.S.ClientSession.count g.S.ClientSession.since c.args.cid.0 c.args.core.now c.requires.sound)
 
 pub returns-then-is_default-clause-lacking : goal.returns-then-is_default-clause-lacking
 returns-then-is_default-clause-lacking g c before course draw name h is =

@@ -1,4 +1,4 @@
-use Rattle.std.proofs.Common.{refl}
+use Rattle.std.proofs.Common.{refl, subst, sym, ◌≤◌}
 use Rattle.client_table.specs.Tables.{with_value_at}
 use Rattle.server_engine.proofs.Passed.{passed_at}
 use Rattle.server_engine.proofs.messages.pass_at.Goals as goal
@@ -17,4 +17,4 @@ returns-clause-sound g c =
     let core = c.args.core.now in
     let w = c.pass.new.client in
     c.a_changed_core_is_sound.ensures core (with_value_at core.clients c.args.i w) c.args.i c.value_at.result.now w c.requires.sound c.value_at.ensures.value
-    c.pass.ensures.goes_on c.pass.ensures.count (record { entries_are = c.lending_sets_the_value.ensures core.clients c.args.i w; admitted_is = refl; most_is = refl })
+    c.pass.ensures.goes_on c.pass.ensures.count (λ past. subst (λ n. n ≤ core.moment.0) (sym c.pass.ensures.since) past) (record { entries_are = c.lending_sets_the_value.ensures core.clients c.args.i w; admitted_is = refl; most_is = refl })

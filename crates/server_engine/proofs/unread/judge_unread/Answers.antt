@@ -19,7 +19,7 @@ returns-then-has_too_much-clause-judged g c before course h =
 
 pub returns-then-has_too_much-clause-sound : goal.returns-then-has_too_much-clause-sound
 returns-then-has_too_much-clause-sound g c =
-    c.end.ensures.sound (sound_but g.S.ClientSession.goes_on g.S.ClientSession.count c.args.cid.0 c.args.core.now c.requires.sound)
+    c.end.ensures.sound (sound_but g.S.ClientSession.goes_on g.S.ClientSession.count g.S.ClientSession.since c.args.cid.0 c.args.core.now c.requires.sound)
 
 pub returns-else-has_too_much-clause-judged : goal.returns-else-has_too_much-clause-judged
 returns-else-has_too_much-clause-judged g c before course h =
