@@ -1,0 +1,22 @@
+//! The key sessions of one client.
+#![tactic(auto)]
+
+mod changes;
+mod looks;
+mod name;
+mod places;
+mod runs;
+mod session;
+mod slot;
+mod slots;
+mod text;
+
+pub use name::NameFault;
+pub use runs::{SlotAnswer, SlotEvent, SlotSetup, run_slots};
+pub use session::{KeySession, Keyed, Named, NoCipher, Opening, cipher_chosen, kid_of};
+pub use slot::{Newest, SessionSeen, Stage};
+pub use slots::Slots;
+pub use text::SessionText;
+
+#[cfg(test)]
+mod tests;
