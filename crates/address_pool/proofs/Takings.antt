@@ -1,5 +1,5 @@
 -- Addresses taken and free, by their counts.
-use Rattle.std.proofs.Common.{◌≡◌, ℕ, suc, ◌+◌, ◌-◌, ◌≤◌, ◌==◌, ◌||◌, not, Bool, true, false, cond, List, [], ◌∷◌, find, count_by, refl, ap, ◌∙◌, ⊎_elim, zero-add, arith}
+use Rattle.std.proofs.Common.{◌≡◌, ℕ, suc, ◌+◌, ◌-◌, ◌≤◌, ◌==◌, ◌||◌, not, Bool, true, false, cond, List, [], ◌∷◌, find, count_by, Option, refl, ap, ◌∙◌, ⊎_elim, zero-add, arith}
 use Rattle.std.specs.Prelude.{option_map}
 use Rattle.std.proofs.lemmas.Bool.{cases_eq}
 use Rattle.std.proofs.lemmas.List.Sums.{sum_by-cons}
@@ -10,6 +10,7 @@ use Rattle.vpn_base.specs.declared.address.Ip4.{Ip4}
 use Rattle.address_pool.specs.Counts.{count_of}
 use Rattle.address_pool.specs.LeastFree.{Takings, is_taken, least_free}
 use Rattle.address_pool.specs.Holds.{Holds}
+use Rattle.address_pool.specs.internal.Beside.{CountsBeside, count_beside}
 use Rattle.address_pool.specs.declared.Pool.{Pool}
 
 uncounted_step : (b : Bool) (n : ℕ) (rest : Bool) → (n == 0) ≡ not rest → (cond b 1 0 + n == 0) ≡ not (b || rest)
@@ -23,23 +24,21 @@ uncounted (a ∷ taken) n =
     ap (λ (m : ℕ). m == 0) (sum_by-cons (λ (x : Ip4). cond (x.0 == n) 1 0) a taken)
     ∙ uncounted_step (a.0 == n) (count_by (λ x. x.0 == n) taken) (is_taken taken n) (uncounted taken n)
 
--- in a pool
-uncounted_in : (pool : Pool) (t : Takings) → Holds pool t → (n : ℕ) → (count_of pool.counts n == 0) ≡ not (is_taken t.taken n)
-uncounted_in pool t h n = ap (λ (m : ℕ). m == 0) (h.counts n) ∙ uncounted t.taken n
-
 find_same : (p q : ℕ → Bool) → ((n : ℕ) → p n ≡ q n) → (xs : List ℕ) → find p xs ≡ find q xs
 find_same p q same [] = refl
 find_same p q same (x ∷ xs) = rw (same x, find_same p q same xs) refl
 
--- the least address of the range that no taking counts
-pub least_in : (pool : Pool) (t : Takings) → Holds pool t
-    → option_map (λ n. record { 0 = n }) (find (λ n. count_of pool.counts n == 0) (range_with_len pool.first.0 (pool.last.0 + 1 - pool.first.0)))
-    ≡ least_free t.first t.last t.taken
+-- the least address of the range that no taking counts, beside one that is given up
+pub least_in : (pool : Pool) (t : Takings) (given_up : Option ℕ) (rest : List Ip4) → Holds pool t → CountsBeside pool given_up rest
+    → option_map (λ n. record { 0 = n }) (find (λ n. count_beside pool.counts given_up n == 0) (range_with_len pool.first.0 (pool.last.0 + 1 - pool.first.0)))
+    ≡ least_free t.first t.last rest
 unfolding least_free
-least_in pool t h =
-    let free : ℕ → Bool = λ n. not (is_taken t.taken n) in
+least_in pool t given_up rest h counts =
+    let counted : ℕ → Bool = λ n. count_beside pool.counts given_up n == 0 in
+    let free : ℕ → Bool = λ n. not (is_taken rest n) in
     let address : ℕ → Ip4 = λ n. record { 0 = n } in
-    ap (option_map address) (find_same (λ n. count_of pool.counts n == 0) free (uncounted_in pool t h) (range_with_len pool.first.0 (pool.last.0 + 1 - pool.first.0)))
+    let same : (n : ℕ) → counted n ≡ free n = λ n. ap (λ (m : ℕ). m == 0) (counts n) ∙ uncounted rest n in
+    ap (option_map address) (find_same counted free same (range_with_len pool.first.0 (pool.last.0 + 1 - pool.first.0)))
     ∙ ap (λ (first : Ip4). option_map address (find free (range_with_len first.0 (pool.last.0 + 1 - first.0)))) h.begins
     ∙ ap (λ (last : Ip4). option_map address (find free (range_with_len t.first.0 (last.0 + 1 - t.first.0)))) h.ends
 
@@ -55,7 +54,7 @@ less_none n a f none =
 pub absent : (pool : Pool) (t : Takings) (a : ℕ) → Holds pool t → is_taken t.taken a ≡ false
     → (n : ℕ) → count_of pool.counts n - cond (n == a) 1 0 ≡ count_by (λ x. x.0 == n) t.taken
 absent pool t a h out n =
-    less_none n a (count_of pool.counts) (count_zero (count_of pool.counts a) (is_taken t.taken a) (uncounted_in pool t h a) out) ∙ h.counts n
+    less_none n a (count_of pool.counts) (count_zero (count_of pool.counts a) (is_taken t.taken a) (ap (λ (m : ℕ). m == 0) (h.counts a) ∙ uncounted t.taken a) out) ∙ h.counts n
 
 -- the first of a range that fails the test is passed over
 pub find_next : (p : ℕ → Bool) (a last : ℕ) → a ≤ last → p a ≡ false

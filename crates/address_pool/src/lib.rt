@@ -31,6 +31,7 @@ pub struct Pool {
 impl Pool {
     ghost use Rattle.address_pool.specs.LeastFree.{Takings, least_free, given, is_taken, with_taking, with_taken};
     ghost use Rattle.address_pool.specs.Holds.{Holds};
+    ghost use Rattle.address_pool.specs.internal.Beside.{CountsBeside};
 
     /// The addresses from the first to the last, both included, with nothing taken.
     pub fn new(alloc: Global, first: Ip4, last: Ip4) -> Pool
@@ -43,6 +44,23 @@ impl Pool {
         }
     }
 
+    // Takes the least address of the range that nobody has, but perhaps one that gives it up.
+    fn take_least(&mut self, given_up: Option<u32>) -> Result<Ip4, Or<PoolEmpty>>
+        ensures least { (t : Takings) (rest : List Ip4) → Holds self.old t → CountsBeside self.old given_up rest →
+            Answers result (given (least_free t.first t.last rest)) }
+        ensures taken { IfOk result (λ a. (t : Takings) (before after : List Ip4) → Holds self.old t → t.taken ≡ before ++ after
+            → Holds self.new (with_taking t before a after)) }
+        ensures err { OnErr result ((t : Takings) → Holds self.old t → Holds self.new t) }
+    {
+        match least_uncounted(&self.counts, given_up, self.first.0, self.last.0) {
+            Some(a) => match count_up(&mut self.counts, a) {
+                Ok(()) => Ok(Ip4(a)),
+                Err(NoMemory) => Err(Or::Memory),
+            },
+            None => Err(Or::Why(PoolEmpty)),
+        }
+    }
+
     /// Takes the least address of the range that nobody has. `PoolEmpty` comes exactly where there
     /// is none. After want of memory and `PoolEmpty` the pool is as before.
     pub fn take(&mut self) -> Result<Ip4, Or<PoolEmpty>>
@@ -51,13 +69,19 @@ impl Pool {
             → Holds self.new (with_taking t before a after)) }
         ensures err { OnErr result ((t : Takings) → Holds self.old t → Holds self.new t) }
     {
-        match least_uncounted(&self.counts, self.first.0, self.last.0) {
-            Some(a) => match count_up(&mut self.counts, a) {
-                Ok(()) => Ok(Ip4(a)),
-                Err(NoMemory) => Err(Or::Memory),
-            },
-            None => Err(Or::Why(PoolEmpty)),
-        }
+        self.take_least(None)
+    }
+
+    /// The same, but one taking of `given_up` does not count: its address may be taken where nobody else has
+    /// it. That taking stays until it is given back.
+    pub fn take_beside(&mut self, given_up: Ip4) -> Result<Ip4, Or<PoolEmpty>>
+        ensures least { (t : Takings) (before after : List Ip4) → Holds self.old t → t.taken ≡ before ++ given_up ∷ after
+            → Answers result (given (least_free t.first t.last (before ++ after))) }
+        ensures taken { IfOk result (λ a. (t : Takings) (before after : List Ip4) → Holds self.old t → t.taken ≡ before ++ after
+            → Holds self.new (with_taking t before a after)) }
+        ensures err { OnErr result ((t : Takings) → Holds self.old t → Holds self.new t) }
+    {
+        self.take_least(Some(given_up.0))
     }
 
     /// Takes this address once more, in the range or not, whoever has it. After want of memory the

@@ -18,6 +18,14 @@ fn takings_are_counted(rt: HostRuntime) -> Result<(), Fail> {
     assert_eq!(rt; taken(&mut pool), None);
     pool.give_back(Ip4(2));
     assert_eq!(rt; taken(&mut pool), Some(Ip4(2)));
+    match pool.take_beside(Ip4(3)) {
+        Ok(a) => assert_eq!(rt; a, Ip4(3)),
+        Err(_) => panic!(rt; "an address is given up"),
+    }
+    match pool.take_beside(Ip4(3)) {
+        Err(Or::Why(PoolEmpty)) => {}
+        _ => panic!(rt; "it was taken again"),
+    }
     Ok(())
 }
 

@@ -1,5 +1,5 @@
 -- The rows of a table together with the hosts that were learned from the packets of clients.
-use Rattle.std.specs.Prelude.{ℕ, ◌==◌, not, Bool, List, ◌∷◌, ◌++◌, filter, map, take}
+use Rattle.std.specs.Prelude.{ℕ, ◌==◌, not, Bool, List, [], ◌∷◌, ◌++◌, filter, map, take}
 use Rattle.std.specs.List.{list_any}
 use Rattle.vpn_base.specs.declared.address.Ip4.{Ip4}
 use Rattle.vpn_base.specs.declared.names.Cid.{Cid}
@@ -34,6 +34,20 @@ kept_hosts rows hosts = filter (λ host. is_owned_by host.1 (owner rows host.0))
 pub record Table : Type 0 where
   pub rows : List Row
   pub learned : List Host
+
+-- a table with no rows and no hosts
+abbrev pub table_empty : Table
+table_empty = record { rows = []; learned = [] }
+
+-- the same, and for how many more rows there is room
+pub record Contents : Type 0 where
+  pub rows : List Row
+  pub learned : List Host
+  pub spare_rows : ℕ
+
+-- what it holds, whatever room it has
+abbrev pub table_of : Contents → Table
+table_of c = record { rows = c.rows; learned = c.learned }
 
 -- the table with these rows in place of its own, over which its hosts are judged again
 abbrev pub over_rows : List Row → Table → Table

@@ -2,9 +2,9 @@
 //! from the packets of clients.
 #![tactic(auto)]
 
-ghost use Rattle.std.specs.Prelude.{◌≡◌, ◌+◌, ◌≤◌, ◌<◌, [], ◌∷◌, ◌++◌, length, true, IsOk, OnOk, OnErr, IfSome, slice_get};
+ghost use Rattle.std.specs.Prelude.{◌≡◌, ◌+◌, ◌≤◌, ◌<◌, [], ◌∷◌, ◌++◌, length, true, IsOk, IfOk, OnOk, OnErr, IfSome, slice_get};
 ghost use Rattle.route_table.specs.Owner.{owner};
-ghost use Rattle.route_table.specs.Learned.{is_learned, rows_of, with_host, with_rows, without_client};
+ghost use Rattle.route_table.specs.Learned.{is_learned, rows_of, table_empty, table_of, with_host, with_rows, without_client};
 
 mod hosts;
 mod rows;
@@ -18,7 +18,8 @@ use std::sync::ledger::Ledger;
 use vpn_base::{Cid, Ip4, NoMemory, Prefix, RouteList, Steps};
 
 /// Prefixes with the clients that own them, and hosts that were learned from clients. Contracts see
-/// the list of rows in the order in which they were added, and the list of hosts, the latest first.
+/// the list of rows in the order in which they were added, the list of hosts, the latest first, and
+/// for how many more rows there is room.
 #[derive(Drop)]
 pub struct RouteTable {
     rows: Vec<(Prefix, Cid)>,
@@ -26,12 +27,13 @@ pub struct RouteTable {
 }
 
 impl Model for RouteTable {
-    ghost use Rattle.route_table.specs.Learned.{Table};
+    ghost use Rattle.std.specs.Prelude.{◌-◌, vec_len, vec_capacity};
+    ghost use Rattle.route_table.specs.Learned.{Contents};
     ghost use Rattle.route_table.specs.internal.Sound.{IsSound};
 
-    ghost Value = { Table };
+    ghost Value = { Contents };
 
-    ghost view = { λ t. record { rows = t.rows.items; learned = t.hosts.items } };
+    ghost view = { λ t. record { rows = t.rows.items; learned = t.hosts.items; spare_rows = vec_capacity t.rows - vec_len t.rows } };
 
     ghost invariant = { λ t. IsSound t.rows.items t.hosts.items };
 }
@@ -39,7 +41,8 @@ impl Model for RouteTable {
 impl RouteTable {
     /// A table with no rows and no hosts. It always answers Ok.
     pub fn new(alloc: Global) -> Result<RouteTable, NoMemory>
-        ensures { result ≡ Ok (record { rows = []; learned = [] }) }
+        ensures ok { IsOk result }
+        ensures empty { IfOk result (λ t. table_of t ≡ table_empty) }
     {
         Ok(RouteTable {
             rows: Vec::new(alloc),
@@ -47,11 +50,22 @@ impl RouteTable {
         })
     }
 
+    /// Makes room for at least so many more rows. It takes no memory where that room is there.
+    pub fn reserve(&mut self, rows: usize) -> Result<(), NoMemory>
+        ensures same { table_of self.new ≡ table_of self.old }
+        ensures ok { OnOk result (rows ≤ self.new.spare_rows) }
+        ensures fits { rows ≤ self.old.spare_rows → IsOk result }
+        ensures grows { self.old.spare_rows ≤ self.new.spare_rows }
+    {
+        self.rows.reserve(rows)?;
+        Ok(())
+    }
+
     /// Adds a row at the end. A learned host that another client owns now is gone. After want of memory
     /// the table is as before.
     pub fn add(&mut self, prefix: Prefix, cid: Cid) -> Result<(), NoMemory>
-        ensures ok { OnOk result (self.new ≡ with_rows ((prefix, cid) ∷ []) self.old) }
-        ensures err { OnErr result (self.new ≡ self.old) }
+        ensures ok { OnOk result (table_of self.new ≡ with_rows ((prefix, cid) ∷ []) (table_of self.old)) }
+        ensures err { OnErr result (table_of self.new ≡ table_of self.old) }
     {
         self.rows.push((prefix, cid))?;
         judge_again(&mut self.hosts, &self.rows);
@@ -59,11 +73,12 @@ impl RouteTable {
     }
 
     /// Adds a client's rows at the end: those of `own` and then those of `rest`, all or none. A learned
-    /// host that it owns in place of another client is gone. After want of memory the table is as
-    /// before.
+    /// host that it owns in place of another client is gone. After want of memory, which does not come
+    /// where there is room for all of them, the table is as before.
     pub fn add_all(&mut self, own: &[Prefix], rest: &RouteList, cid: Cid) -> Result<(), NoMemory>
-        ensures ok { OnOk result (self.new ≡ with_rows (rows_of cid (own.now ++ rest.now)) self.old) }
-        ensures err { OnErr result (self.new ≡ self.old) }
+        ensures ok { OnOk result (table_of self.new ≡ with_rows (rows_of cid (own.now ++ rest.now)) (table_of self.old)) }
+        ensures err { OnErr result (table_of self.new ≡ table_of self.old) }
+        ensures fits { length own.now + length rest.now ≤ self.old.spare_rows → IsOk result }
     {
         put_all(&mut self.rows, own, rest, cid)?;
         judge_again(&mut self.hosts, &self.rows);
@@ -73,7 +88,8 @@ impl RouteTable {
     /// Takes out the rows of this client and the hosts that nobody owns any more or another one does.
     /// The others keep their order.
     pub fn drop_client(&mut self, cid: Cid)
-        ensures { self.new ≡ without_client cid self.old }
+        ensures dropped { table_of self.new ≡ without_client cid (table_of self.old) }
+        ensures grows { self.old.spare_rows ≤ self.new.spare_rows }
     {
         keep_others(&mut self.rows, cid);
         judge_again(&mut self.hosts, &self.rows);
@@ -94,8 +110,8 @@ impl RouteTable {
     /// are.
     pub fn learn(&mut self, host: Ip4, cid: Cid) -> Result<(), NoMemory>
         requires { owner self.old.rows host ≡ Some cid }
-        ensures ok { OnOk result (self.new ≡ with_host host cid self.old) }
-        ensures err { OnErr result (self.new ≡ self.old) }
+        ensures ok { OnOk result (table_of self.new ≡ with_host host cid (table_of self.old)) }
+        ensures err { OnErr result (table_of self.new ≡ table_of self.old) }
         ensures there { is_learned self.old.learned host ≡ true → IsOk result }
         ensures full { 256 ≤ length self.old.learned → IsOk result }
     {

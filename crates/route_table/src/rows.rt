@@ -1,6 +1,6 @@
 //! Rows of prefixes with the clients that they were added for, in the order of adding.
 
-ghost use Rattle.std.specs.Prelude.{◌≡◌, ◌+◌, ◌≤◌, ◌<◌, [], ◌∷◌, ◌++◌, length, vec_len, vec_capacity, OnOk, OnErr};
+ghost use Rattle.std.specs.Prelude.{◌≡◌, ◌+◌, ◌≤◌, ◌<◌, [], ◌∷◌, ◌++◌, length, vec_len, vec_capacity, OnOk, OnErr, IsOk};
 ghost use Rattle.route_table.specs.Owner.{owner, is_owned_by, without};
 ghost use Rattle.route_table.specs.Learned.{rows_of};
 ghost use Rattle.route_table.specs.internal.Walk.{longer};
@@ -57,7 +57,9 @@ pub(crate) fn owner_among<L: Ledger>(
 }
 
 pub(crate) fn keep_others(rows: &mut Vec<(Prefix, Cid)>, cid: Cid)
-    ensures { rows.new.items ≡ without rows.old.items cid }
+    ensures items { rows.new.items ≡ without rows.old.items cid }
+    ensures fewer { vec_len rows.new ≤ vec_len rows.old }
+    ensures capacity { vec_capacity rows.new ≡ vec_capacity rows.old }
 {
     rows.retain(|row| row.1.0 != cid.0);
 }
@@ -103,6 +105,7 @@ pub(crate) fn put_all(
 ) -> Result<(), NoMemory>
     ensures ok { OnOk result (rows.new.items ≡ rows.old.items ++ rows_of cid (own.now ++ rest.now)) }
     ensures err { OnErr result (rows.new.items ≡ rows.old.items) }
+    ensures fits { vec_len rows.old + length own.now + length rest.now ≤ vec_capacity rows.old → IsOk result }
 {
     let Some(more) = own.len().checked_add(rest.count()) else {
         return Err(NoMemory);

@@ -55,6 +55,7 @@ fn hosts_are_learned(rt: HostRuntime) -> Result<(), Fail> {
     let mut rest = RouteList::new(rt.alloc());
     rest.add(wide)?;
     let mut table = RouteTable::new(rt.alloc())?;
+    table.reserve(2)?;
     table.add_all(&[host], &rest, Cid(1))?;
     assert_eq!(rt; table.row(1).map(|row| row.1), Some(Cid(1)));
     learn(&mut table, Ip4(0x0A00_0002))?;

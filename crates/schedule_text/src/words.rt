@@ -12,7 +12,7 @@ use std::alloc::Global;
 use vpn_base::{Bytes, NoMemory, Prefix, read_ip4, read_number, split_once};
 
 // The two parts of a text around a byte that stands in it once.
-fn two_parts(text: &[u8], byte: u8) -> Option<(&[u8], &[u8])>
+pub(crate) fn two_parts(text: &[u8], byte: u8) -> Option<(&[u8], &[u8])>
     ensures { MatchOption result
         (two_of (slice_split (λ c. c == byte) text.now) ≡ None)
         (λ parts. two_of (slice_split (λ c. c == byte) text.now) ≡ Some (parts.0.now, parts.1.now)) }

@@ -1,0 +1,2 @@
+-- What private functions are said with.
+pub mod Beside

@@ -1,0 +1,5 @@
+pub mod Puts
+pub mod Sessions
+pub mod Tests
+pub mod Brought
+pub mod internal

@@ -1,0 +1,2 @@
+-- What only the proofs of the laws cite.
+pub mod LinkReads

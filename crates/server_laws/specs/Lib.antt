@@ -1,0 +1,5 @@
+pub mod Accepted
+pub mod HandedOn
+pub mod Waiting
+pub mod WellKept
+pub mod Sealings

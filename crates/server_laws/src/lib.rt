@@ -1,0 +1,11 @@
+//! The laws of a server's run: what holds of every list of events, whatever they bring. There is no other
+//! code here.
+#![tactic(auto)]
+
+mod inner_packets;
+
+pub use inner_packets::{
+    ids_are_accepted_once, ids_are_sealed_once, no_packet_is_lost, other_events_hand_nothing_on,
+    packets_go_where_they_should, packets_of_the_device_go_to_owners, packets_wait_in_order,
+    packets_were_sealed, tables_are_well_kept, what_opens_is_its_packet,
+};
