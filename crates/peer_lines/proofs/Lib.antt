@@ -3,4 +3,3 @@ pub mod Packets
 pub mod Links
 pub mod Texts
 pub mod Taking
-pub mod Stages

@@ -1,2 +1,3 @@
 -- What only private functions cite.
 pub mod Packets
+pub mod Stages

@@ -9,6 +9,7 @@ mod laws;
 mod open_link;
 mod plain;
 mod reading;
+mod text;
 
 pub use blank::SessionBlank;
 pub use channels::SessionChannels;

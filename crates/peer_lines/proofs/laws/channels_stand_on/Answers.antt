@@ -1,6 +1,6 @@
 use Rattle.peer_lines.specs.Standing.{StandsFor, has_data}
 use Rattle.peer_lines.proofs.Packets.{none_before, there_after}
-use Rattle.peer_lines.proofs.Stages.{closed_stands, restaged_stands}
+use Rattle.peer_lines.specs.internal.Stages.{closed_stands, restaged_stands}
 use Rattle.peer_lines.proofs.laws.channels_stand_on.Goals as goal
 
 pub returns-clause-restaged : goal.returns-clause-restaged

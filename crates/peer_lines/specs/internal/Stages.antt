@@ -1,8 +1,9 @@
 -- A session that changes its stage, or is closed.
-use Rattle.std.proofs.Common.{◌≡◌, true, false, List, [], ◌∷◌, Option, Some, None, sym}
+use Rattle.std.proofs.Common.{◌≡◌, refl, true, false, List, [], ◌∷◌, Option, Some, None, sym}
 use Rattle.std.proofs.lemmas.Bool.{false≢true}
 use Rattle.gcm_seal.specs.declared.gcm.AnyGcm.{AnyGcm}
 use Rattle.packet_ids.specs.Window.{Kept}
+use Rattle.control_link.specs.Links.{Link, LinkStands}
 use Rattle.data_channel.specs.declared.channel.DataChannel.{DataChannel}
 use Rattle.peer_table.specs.KeySessions.{Keys, Session, Stage, closed, has_keys, is_keyed, keys_of}
 use Rattle.peer_table.specs.KeySessions as sessions
@@ -57,3 +58,8 @@ closed_stands c s stands = record {
   packets = data_closed c.window c.packets.items s stands.packets;
   room = stands.room;
 }
+
+-- its link is on the engine connection of the session
+pub on_its_link : (c : SessionChannels) (s : Session) → StandsFor c s → (h : Link) × LinkStands c.link h × (h.conn ≡ s.link.conn)
+unfolding StandsFor
+on_its_link c s stands = (s.link, stands.link, refl)
