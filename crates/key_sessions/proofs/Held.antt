@@ -1,0 +1,73 @@
+-- The texts that the slots hold, once the slot of one number was changed.
+use Rattle.std.proofs.Common.{◌≡◌, ◌≢◌, ℕ, zero, suc, Bool, true, false, List, [], ◌∷◌, Option, Some, None, Bor, refl, ap, sym, subst, ◌∙◌, slice_set}
+use Rattle.std.specs.Prelude.{slice_get, IfSome, is_some}
+use Rattle.std.specs.Option.{option_copied}
+use Rattle.std.proofs.lemmas.Option.{none-some}
+use Rattle.vpn_base.specs.declared.names.Conn.{Conn}
+use Rattle.peer_table.specs.KeySessions.{Session}
+use Rattle.peer_table.specs.Time.{is_open_session}
+use Rattle.key_sessions.specs.declared.slot.Slot.{Slot}
+use Rattle.key_sessions.specs.declared.slot.Change.{Change}
+use Rattle.key_sessions.specs.declared.slot.Change.TheVariants.{Take, Put, Close}
+use Rattle.key_sessions.specs.declared.slots.Slots.{Slots}
+use Rattle.key_sessions.specs.internal.Steps.{applied, given_at, text_if}
+use Rattle.key_sessions.specs.Slots.{IsWhole, SlotsStand, all_slots, is_open_stage, text_at, text_in}
+use Rattle.key_sessions.proofs.Steps.{Changes, answer_stands, taken_there}
+
+other_same : {X : Type 0} (xs : List X) (n m : ℕ) (x : X) → m ≢ n → slice_get (slice_set xs n x) m ≡ slice_get xs m
+other_same [] n m x other = refl
+other_same (y ∷ xs) zero zero x other = absurd (other refl)
+other_same (y ∷ xs) zero (suc m) x other = refl
+other_same (y ∷ xs) (suc n) zero x other = refl
+other_same (y ∷ xs) (suc n) (suc m) x other = other_same xs n m x (λ same. other (ap suc same))
+
+here_set : {X : Type 0} (xs : List X) (n : ℕ) (x y : X) → slice_get xs n ≡ Some y → slice_get (slice_set xs n x) n ≡ Some x
+here_set [] n x y is = absurd (none-some y is)
+here_set (z ∷ xs) zero x y is = refl
+here_set (z ∷ xs) (suc n) x y is = here_set xs n x y is
+
+other_by : {T : Type 0} (before after : Slots T) (change : Change T) (n m : ℕ) (o : Option (Slot T)) → slice_get (all_slots before) n ≡ o →
+    Changes change n before after → m ≢ n → text_at after m ≡ text_at before m
+unfolding text_at
+other_by {T = T} before after change n m (Some slot) is changes other =
+    ap (λ (slots : List (Slot T)). text_in (slice_get slots m)) (changes.slot slot is)
+    ∙ ap (λ (o : Option (Slot T)). text_in o) (other_same (all_slots before) n m (applied change slot) other)
+other_by {T = T} before after change n m None is changes other = ap (λ (slots : Slots T). text_in (slice_get (all_slots slots) m)) (changes.none is)
+
+-- the text of another number stays
+pub other_text : {T : Type 0} (before after : Slots T) (change : Change T) (n m : ℕ) → Changes change n before after → m ≢ n → text_at after m ≡ text_at before m
+other_text before after change n m changes other = other_by before after change n m (slice_get (all_slots before) n) refl changes other
+
+put_if : {T : Type 0} (text : T) (b : Bool) → IfSome (text_if text b) (λ here. here ≡ text)
+put_if text true = refl
+put_if text false = tt
+
+put_by : {T : Type 0} (before after : Slots T) (text : T) (conn : Conn) (n : ℕ) (o : Option (Slot T)) → slice_get (all_slots before) n ≡ o →
+    Changes (Put text conn) n before after → IfSome (text_at after n) (λ here. here ≡ text)
+unfolding text_at
+put_by {T = T} before after text conn n (Some slot) is changes =
+    let now_here = ap (λ (slots : List (Slot T)). text_in (slice_get slots n)) (changes.slot slot is)
+        ∙ ap (λ (o : Option (Slot T)). text_in o) (here_set (all_slots before) n (applied (Put text conn) slot) slot is) in
+    subst (λ (o : Option T). IfSome o (λ here. here ≡ text)) (sym now_here) (put_if text (is_open_stage slot.stage))
+put_by {T = T} before after text conn n None is changes =
+    let still = ap (λ (slots : Slots T). text_in (slice_get (all_slots slots) n)) (changes.none is) ∙ ap (λ (o : Option (Slot T)). text_in o) is in
+    subst (λ (o : Option T). IfSome o (λ here. here ≡ text)) (sym still) tt
+
+-- a text that was put is the one that is there, if one is
+pub put_text_is : {T : Type 0} (before after : Slots T) (text : T) (conn : Conn) (n : ℕ) → Changes (Put text conn) n before after → IfSome (text_at after n) (λ here. here ≡ text)
+put_text_is before after text conn n changes = put_by before after text conn n (slice_get (all_slots before) n) refl changes
+
+-- ---- a text that is lent
+
+-- whether there is one
+pub lent_there : {T : Type 0} (stands_for : T → Session → Type 0) (slots : Slots T) (ss : List Session) (n : ℕ) (result : Option (Bor T)) →
+    option_copied result ≡ given_at Take (slice_get (all_slots slots) n) → IsWhole slots → SlotsStand stands_for slots ss → is_some result ≡ is_open_session (slice_get ss n)
+lent_there stands_for slots ss n None is whole are = taken_there stands_for slots ss n None is whole are
+lent_there stands_for slots ss n (Some b) is whole are = taken_there stands_for slots ss n (Some b.now) is whole are
+
+-- it stands for the session
+pub lent_stands : {T : Type 0} (stands_for : T → Session → Type 0) (slots : Slots T) (n : ℕ) (result : Option (Bor T)) →
+    option_copied result ≡ given_at Take (slice_get (all_slots slots) n) →
+    IfSome result (λ text. (ss : List Session) (s : Session) → SlotsStand stands_for slots ss → slice_get ss n ≡ Some s → stands_for text.now s)
+lent_stands stands_for slots n None is = tt
+lent_stands stands_for slots n (Some b) is = answer_stands stands_for Take slots n (Some b.now) is
