@@ -3,7 +3,8 @@ use Rattle.std.specs.Prelude.{◌≡◌, ◌≤◌, ◌<◌, ℕ, ◌+◌, ◌*�
 use Rattle.vpn_links.specs.declared.events.Kind.{Kind}
 use Rattle.vpn_links.specs.declared.events.Kind.TheVariants.{Datagram, EngineText, EnginePlain, Tick}
 use Rattle.reliable_send.specs.Sending.{piece_count}
-use Rattle.key_sessions.specs.Slots.{Slots, room, text_at}
+use Rattle.key_sessions.specs.declared.slots.Slots.{Slots}
+use Rattle.key_sessions.specs.Slots.{room, text_at}
 use Rattle.peer_lines.specs.declared.channels.SessionChannels.{SessionChannels}
 use Rattle.peer_lines.specs.Rooms.{longest, payload_room, plain_room, text_room}
 use Rattle.peer_session.specs.declared.session.PeerSession.{PeerSession}

@@ -1,8 +1,9 @@
 //! One client's session: its control links, keys and data channels, as one value.
 #![tactic(auto)]
 
+mod looks;
 mod name;
+mod numbers;
 mod session;
-mod text;
 
 pub use session::PeerSession;
