@@ -4,14 +4,20 @@ use Rattle.std.specs.Prelude.{slice_get, IfSome, is_some}
 use Rattle.std.specs.Option.{option_copied}
 use Rattle.std.proofs.lemmas.Option.{none-some}
 use Rattle.vpn_base.specs.declared.names.Conn.{Conn}
-use Rattle.peer_table.specs.KeySessions.{Session}
+use Rattle.std.proofs.lemmas.Bool.{false≢true}
+use Rattle.vpn_base.specs.declared.names.Cipher.{Cipher}
+use Rattle.peer_table.specs.KeySessions.{Session, has_keys, is_keyed}
+use Rattle.peer_table.specs.KeySessions as sessions
+use Rattle.key_sessions.specs.declared.slot.SlotStage.{SlotStage}
+use Rattle.key_sessions.specs.declared.slot.SlotStage.TheVariants as kept
+use Rattle.key_sessions.proofs.Each.{BothAt, both_at}
 use Rattle.peer_table.specs.Time.{is_open_session}
 use Rattle.key_sessions.specs.declared.slot.Slot.{Slot}
 use Rattle.key_sessions.specs.declared.slot.Change.{Change}
 use Rattle.key_sessions.specs.declared.slot.Change.TheVariants.{Take, Put, Close}
 use Rattle.key_sessions.specs.declared.slots.Slots.{Slots}
 use Rattle.key_sessions.specs.internal.Steps.{applied, given_at, text_if}
-use Rattle.key_sessions.specs.Slots.{IsWhole, SlotsStand, all_slots, is_open_stage, text_at, text_in}
+use Rattle.key_sessions.specs.Slots.{AreSlotsOf, IsStage, IsWhole, SlotStands, SlotsStand, all_slots, is_open_stage, text_at, text_in}
 use Rattle.key_sessions.proofs.Steps.{Changes, answer_stands, taken_there}
 
 other_same : {X : Type 0} (xs : List X) (n m : ℕ) (x : X) → m ≢ n → slice_get (slice_set xs n x) m ≡ slice_get xs m
@@ -71,3 +77,28 @@ pub lent_stands : {T : Type 0} (stands_for : T → Session → Type 0) (slots : 
     IfSome result (λ text. (ss : List Session) (s : Session) → SlotsStand stands_for slots ss → slice_get ss n ≡ Some s → stands_for text.now s)
 lent_stands stands_for slots n None is = tt
 lent_stands stands_for slots n (Some b) is = answer_stands stands_for Take slots n (Some b.now) is
+
+-- ---- sessions without keys
+
+closed_stage : (cipher : Cipher) (stage : sessions.Stage) → IsStage (kept.Closed cipher) stage → is_keyed stage ≡ false → ⊥
+closed_stage cipher sessions.Opening is none = is
+closed_stage cipher sessions.Named is none = is
+closed_stage cipher (sessions.Keyed keys) is none = false≢true (sym none)
+
+open_stage : (kept : SlotStage) (s : Session) → IsStage kept s.stage → is_open_stage kept ≡ s.is_open → has_keys s ≡ false → s.is_open ≡ true
+open_stage (kept.Opening k) s is same none = sym same
+open_stage (kept.Named k) s is same none = sym same
+open_stage (kept.Keyed k) s is same none = sym same
+open_stage (kept.Closed cipher) s is same none = absurd (closed_stage cipher s.stage is none)
+
+open_slot : {T : Type 0} (stands_for : T → Session → Type 0) (o : Option (Slot T)) (s : Session) → BothAt stands_for o (Some s) → has_keys s ≡ false → s.is_open ≡ true
+open_slot stands_for None s at none = absurd at
+open_slot stands_for (Some slot) s at none = open_stage slot.stage s at.stage at.is_open none
+
+-- a session without keys is open
+pub open_without : {T : Type 0} (stands_for : T → Session → Type 0) (slots : Slots T) (ss : List Session) (n : ℕ) (s : Session) →
+    SlotsStand stands_for slots ss → slice_get ss n ≡ Some s → has_keys s ≡ false → s.is_open ≡ true
+unfolding SlotsStand
+open_without {T = T} stands_for slots ss n s are at none =
+    open_slot stands_for (slice_get (all_slots slots) n) s
+    (subst (λ (o : Option Session). BothAt stands_for (slice_get (all_slots slots) n) o) at (both_at stands_for (all_slots slots) ss n are.each)) none

@@ -2,6 +2,7 @@
 #![tactic(auto)]
 
 mod changes;
+mod laws;
 mod looks;
 mod name;
 mod places;
@@ -11,6 +12,7 @@ mod slot;
 mod slots;
 mod text;
 
+pub use laws::sessions_are_open_without_keys;
 pub use name::NameFault;
 pub use runs::{SlotAnswer, SlotEvent, SlotSetup, run_slots};
 pub use session::{KeySession, Keyed, Named, NoCipher, Opening, cipher_chosen, kid_of};

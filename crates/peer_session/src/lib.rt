@@ -2,8 +2,10 @@
 #![tactic(auto)]
 
 mod looks;
+mod messages;
 mod name;
 mod numbers;
+mod packets;
 mod session;
 
 pub use session::PeerSession;
