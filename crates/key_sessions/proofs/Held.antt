@@ -1,6 +1,6 @@
 -- The texts that the slots hold, once the slot of one number was changed.
 use Rattle.std.proofs.Common.{◌≡◌, ◌≢◌, ℕ, zero, suc, Bool, true, false, List, [], ◌∷◌, Option, Some, None, Bor, refl, ap, sym, subst, ◌∙◌, slice_set}
-use Rattle.std.specs.Prelude.{slice_get, IfSome, is_some}
+use Rattle.std.specs.Prelude.{slice_get, IfSome, IfNone, is_some}
 use Rattle.std.specs.Option.{option_copied}
 use Rattle.std.proofs.lemmas.Option.{none-some}
 use Rattle.vpn_base.specs.declared.names.Conn.{Conn}
@@ -17,7 +17,8 @@ use Rattle.key_sessions.specs.declared.slot.Change.{Change}
 use Rattle.key_sessions.specs.declared.slot.Change.TheVariants.{Take, Put, Close}
 use Rattle.key_sessions.specs.declared.slots.Slots.{Slots}
 use Rattle.key_sessions.specs.internal.Steps.{applied, given_at, text_if}
-use Rattle.key_sessions.specs.Slots.{AreSlotsOf, IsStage, IsWhole, SlotStands, SlotsStand, all_slots, is_open_stage, text_at, text_in}
+use Rattle.key_sessions.specs.Slots.{AreSlotsOf, HasText, HasTextAt, IsStage, IsWhole, SlotStands, SlotsStand, all_slots, is_open_stage, text_at, text_in}
+use Rattle.key_sessions.proofs.Sets.{whole_still}
 use Rattle.key_sessions.proofs.Steps.{Changes, answer_stands, taken_there}
 
 other_same : {X : Type 0} (xs : List X) (n m : ℕ) (x : X) → m ≢ n → slice_get (slice_set xs n x) m ≡ slice_get xs m
@@ -102,3 +103,24 @@ unfolding SlotsStand
 open_without {T = T} stands_for slots ss n s are at none =
     open_slot stands_for (slice_get (all_slots slots) n) s
     (subst (λ (o : Option Session). BothAt stands_for (slice_get (all_slots slots) n) o) at (both_at stands_for (all_slots slots) ss n are.each)) none
+
+-- ---- where no text was taken
+
+none_by : {T : Type 0} (before after : Slots T) (n : ℕ) (o : Option (Slot T)) → slice_get (all_slots before) n ≡ o → given_at Take o ≡ None → Changes Take n before after →
+    IsWhole before → IsWhole after
+unfolding IsWhole
+none_by {T = T} before after n (Some slot) is none changes whole =
+    let has : HasText (is_open_stage slot.stage) slot.text = subst (λ (o : Option (Slot T)). HasTextAt o) is (whole n) in
+    subst (λ (slots : List (Slot T)). (m : ℕ) → HasTextAt (slice_get slots m)) (sym (changes.slot slot is))
+    (whole_still (all_slots before) n (applied Take slot) whole (subst (λ (t : Option T). HasText (is_open_stage slot.stage) t) none has))
+none_by {T = T} before after n None is none changes whole = subst (λ (slots : Slots T). (m : ℕ) → HasTextAt (slice_get (all_slots slots) m)) (sym (changes.none is)) whole
+
+if_none : {T : Type 0} (o : Option T) (P : Type 0) → (o ≡ None → P) → IfNone o P
+if_none None P so = so refl
+if_none (Some t) P so = tt
+
+-- all texts are there still
+pub none_taken : {T : Type 0} (before after : Slots T) (n : ℕ) (result : Option T) → result ≡ given_at Take (slice_get (all_slots before) n) → Changes Take n before after →
+    IsWhole before → IfNone result (IsWhole after)
+none_taken before after n result is changes whole =
+    if_none result (IsWhole after) (λ none. none_by before after n (slice_get (all_slots before) n) refl (sym is ∙ none) changes whole)

@@ -1,6 +1,6 @@
 //! What changes the sessions of a client.
 
-ghost use Rattle.std.specs.Prelude.{◌≡◌, ◌≢◌, ◌+◌, ◌≤◌, ◌++◌, ◌∷◌, [], ℕ, List, is_ok, IsSome, IfOk, IfErr, IfSome, IsOk, OnOk, OnErr, Some, None, MatchResult, is_some, slice_get};
+ghost use Rattle.std.specs.Prelude.{◌≡◌, ◌≢◌, ◌+◌, ◌≤◌, ◌++◌, ◌∷◌, [], ℕ, List, is_ok, IsSome, IfOk, IfErr, IfSome, IfNone, IsOk, OnOk, OnErr, Some, None, MatchResult, is_some, slice_get};
 ghost use Rattle.std.specs.Option.{option_copied};
 ghost use Rattle.vpn_base.specs.declared.errors.Or.TheVariants.{Memory, Why};
 ghost use Rattle.peer_table.specs.EngineAnswers.{kept_name};
@@ -76,6 +76,7 @@ impl<T: SessionText> Slots<T> {
             slice_get ss number ≡ Some s → T.stands_for text s) }
         ensures stands { (ss : List Session) → SlotsStand T.stands_for self.old ss → SlotsStand T.stands_for self.new ss }
         ensures whole { IsWholeBut number self.new }
+        ensures none { IfNone result (IsWhole self.new) }
         ensures stage { newest_stage self.new ≡ newest_stage self.old }
         ensures number { newest_number self.new ≡ newest_number self.old }
         ensures room { room self.new ≡ room self.old }

@@ -1,2 +1,5 @@
 mod Seen
 mod OpenPlaces
+mod Keeping
+mod Sealed
+mod Usable

@@ -1,9 +1,9 @@
 -- The session of one client in code, and the clients for which it stands.
-use Rattle.std.specs.Prelude.{◌≡◌, ◌≢◌, ◌≤◌, ℕ, suc, ◌+◌, Bool, true, false, List, [], ◌∷◌, Option, Some, None}
+use Rattle.std.specs.Prelude.{◌≡◌, ◌≢◌, ◌≤◌, ℕ, suc, ◌+◌, Bool, true, false, List, [], ◌∷◌, Option, Some, None, slice_get}
 use Rattle.vpn_base.specs.declared.names.Timers.{Timers}
 use Rattle.tls_crypt.specs.Packets.{Wrapping}
 use Rattle.control_link.specs.Envelope.{EnvelopeStands}
-use Rattle.peer_table.specs.KeySessions.{Session, has_keys, kid_of}
+use Rattle.peer_table.specs.KeySessions.{Session, has_keys, in_transition, kid_of, retiring}
 use Rattle.peer_table.specs.Peer.{Peer}
 use Rattle.key_sessions.specs.Slots.{IsWhole, SlotsStand, newest_number}
 use Rattle.peer_lines.specs.declared.blank.SessionBlank.{SessionBlank}
@@ -75,3 +75,10 @@ GoesOn s = IsGoingOn s
 -- how many key sessions it ever had
 unfoldable pub count : {W : Type 0} → PeerSession W → ℕ
 count s = newest_number s.slots + 1
+
+-- ---- time
+
+-- the one before the last with keys is open while it may be used, which it is at no moment before the one at which it was closed
+abbrev pub UsableAreOpen : Peer → ℕ → Type 0
+UsableAreOpen p at = (n : ℕ) (s : Session) → retiring p.sessions ≡ Some n → slice_get p.sessions n ≡ Some s →
+    in_transition p.timers at p.sessions ≡ true → s.is_open ≡ true

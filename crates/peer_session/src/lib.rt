@@ -2,7 +2,7 @@
 #![tactic(auto)]
 
 mod looks;
-mod messages;
+
 mod name;
 mod numbers;
 mod packets;

@@ -6,7 +6,7 @@ ghost use Rattle.peer_table.specs.DataPackets.{data_came, data_kid, ids_are_spen
 ghost use Rattle.peer_table.specs.KeySessions.{Keys, Session, keys_of};
 ghost use Rattle.peer_table.specs.Outboxes.{HasRoom, IsUnchanged, LeavesSealed, TellsOpened, Uses};
 ghost use Rattle.peer_table.specs.Peer.{Peer};
-ghost use Rattle.peer_session.specs.Standing.{GoesOn, PeerStands, count};
+ghost use Rattle.peer_session.specs.Standing.{GoesOn, PeerStands, UsableAreOpen, count};
 
 use crate::session::PeerSession;
 use packet_ids::Spent;
@@ -71,8 +71,8 @@ impl<W: Wrap + Drop> PeerSession<W> {
     pub fn unseal(&mut self, datagram: &mut [u8], now: Moment) -> Result<usize, SessionFault>
         requires short { length datagram.old ≤ 65536 }
         requires goes_on { GoesOn self.old }
-        ensures left { (p : Peer) → PeerStands W.wrapped self.old p → PeerStands W.wrapped self.new (data_came datagram.old now p).peer }
-        ensures answer { (p : Peer) → PeerStands W.wrapped self.old p → TellsOpened result datagram.new (data_came datagram.old now p).answer }
+        ensures left { (p : Peer) → UsableAreOpen p now.0 → PeerStands W.wrapped self.old p → PeerStands W.wrapped self.new (data_came datagram.old now p).peer }
+        ensures answer { (p : Peer) → UsableAreOpen p now.0 → PeerStands W.wrapped self.old p → TellsOpened result datagram.new (data_came datagram.old now p).answer }
         ensures unchanged { IsUnchanged result datagram.old datagram.new }
         ensures goes_on { GoesOn self.new }
         ensures front { take 24 datagram.new ≡ take 24 datagram.old }
