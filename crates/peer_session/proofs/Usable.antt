@@ -13,7 +13,10 @@ use Rattle.peer_table.specs.KeySessions as sessions
 use Rattle.peer_table.specs.declared.outcomes.SessionFault.TheVariants.{BadKey}
 use Rattle.peer_table.specs.DataPackets.{data_came, data_kid, ids_are_spent, opened_by, opened_in, sealed_by, sealed_in, sealed_to}
 use Rattle.peer_table.specs.Peer.{Outcome, Peer, answered}
-use Rattle.key_sessions.specs.Slots.{LastIsOpen}
+use Rattle.key_sessions.specs.declared.slots.Slots.{Slots}
+use Rattle.key_sessions.specs.Slots.{AreSlotsOf, LastIsOpen, SlotsStand}
+use Rattle.peer_lines.specs.declared.channels.SessionChannels.{SessionChannels}
+use Rattle.peer_lines.specs.Standing.{StandsFor}
 use Rattle.peer_session.specs.Standing.{UsableAreOpen}
 
 -- a session with keys, and its keys
@@ -122,3 +125,8 @@ pub none_opened : (p : Peer) (datagram : List ℕ) (moment : Moment) → None �
     answered p (Err (BadKey (data_kid datagram))) ≡ data_came datagram moment p
 unfolding data_came
 none_opened p datagram moment is = ap (λ (o : Option ℕ). opened_in p datagram moment o (session_at p.sessions o)) is
+
+-- the last session with keys is open
+pub last_open : (ss : List Session) (slots : Slots SessionChannels) → SlotsStand StandsFor slots ss → LastIsOpen ss
+unfolding SlotsStand
+last_open ss slots are = are.sealing

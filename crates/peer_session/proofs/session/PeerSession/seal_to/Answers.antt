@@ -1,5 +1,6 @@
 use Rattle.std.proofs.Common.{◌≡◌, Some, None, ap, sym, subst, ◌∙◌, refl}
 use Rattle.std.specs.Prelude.{is_ok}
+use Rattle.std.proofs.lemmas.List.{append-nil}
 use Rattle.peer_table.specs.Outboxes.{LeavesSealed}
 use Rattle.peer_session.specs.Standing.{PeerStands}
 use Rattle.peer_session.proofs.Usable.{newest_keyed, none_sealed, sealed_is}
@@ -7,7 +8,10 @@ use Rattle.peer_session.proofs.session.PeerSession.seal_to.Goals as goal
 
 pub returns-in-None-clause-left : goal.returns-in-None-clause-left
 unfolding PeerStands
-returns-in-None-clause-left g c = ?
+returns-in-None-clause-left g c = λ p stands.
+    subst (LeavesSealed (PeerStands g.W.Wrap.wrapped) c.args.self.now c.args.out.now c.args.out.now c.args.to)
+    (none_sealed p c.args.inner.now (sym c.in-None.is ∙ c.newest_usable.ensures.number p.sessions stands.slots_stand))
+    (record { peer = stands; outbox = (sym (append-nil c.args.out.now.effects), refl) })
 
 pub returns-in-None-clause-answer : goal.returns-in-None-clause-answer
 unfolding PeerStands
