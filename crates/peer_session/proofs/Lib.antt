@@ -3,3 +3,4 @@ mod OpenPlaces
 mod Keeping
 mod Sealed
 mod Usable
+mod Waits

@@ -3,6 +3,7 @@
 
 mod looks;
 
+mod messages;
 mod name;
 mod numbers;
 mod packets;
