@@ -4,3 +4,4 @@ mod Keeping
 mod Sealed
 mod Usable
 mod Waits
+mod Ends

@@ -1,6 +1,8 @@
 //! One client's session: its control links, keys and data channels, as one value.
 #![tactic(auto)]
 
+mod begin;
+mod closing;
 mod looks;
 
 mod messages;

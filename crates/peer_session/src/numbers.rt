@@ -1,6 +1,6 @@
 //! The numbers of the open key sessions.
 
-ghost use Rattle.std.specs.Prelude.{◌≡◌, ◌≤◌, List};
+ghost use Rattle.std.specs.Prelude.{◌≡◌, ◌≤◌, List, length};
 ghost use Rattle.peer_table.specs.KeySessions.{Session, open_numbers};
 ghost use Rattle.key_sessions.specs.Slots.{SlotsStand};
 ghost use Rattle.peer_lines.specs.Standing.{StandsFor};
@@ -10,7 +10,7 @@ use peer_lines::SessionChannels;
 use std::marker::Model;
 
 /// At most so many key sessions of a client are open.
-const MOST_OPEN: usize = 3;
+pub(crate) const MOST_OPEN: usize = 3;
 
 /// The numbers of the open key sessions of a client, in order, which contracts see as a list.
 #[derive(Drop)]
@@ -56,7 +56,8 @@ impl OpenNumbers {
 
     // The numbers.
     pub(crate) fn as_slice(&self) -> &[u64]
-        ensures { result.now ≡ self.now }
+        ensures now { result.now ≡ self.now }
+        ensures few { length result.now ≤ 3 }
     {
         &self.numbers[..self.count]
     }

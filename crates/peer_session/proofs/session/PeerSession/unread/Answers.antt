@@ -10,5 +10,5 @@ pub returns : goal.returns
 unfolding PeerStands
 returns g c = λ p stands.
     c.unread_among.ensures p stands
-    ∙ ap (unread_among (slice_get p.sessions)) (c.as_slice.ensures ∙ c.of-numbers.ensures p.sessions stands.slots_stand)
+    ∙ ap (unread_among (slice_get p.sessions)) (c.as_slice.ensures.now ∙ c.of-numbers.ensures p.sessions stands.slots_stand)
     ∙ sym (unread_is p.sessions)

@@ -11,5 +11,5 @@ pub returns : goal.returns
 unfolding PeerStands
 returns g c = λ p stands.
     c.waiting_among.ensures p stands
-    ∙ ap (waiting_among (slice_get p.sessions)) (c.as_slice.ensures ∙ c.of-numbers.ensures p.sessions stands.slots_stand)
+    ∙ ap (waiting_among (slice_get p.sessions)) (c.as_slice.ensures.now ∙ c.of-numbers.ensures p.sessions stands.slots_stand)
     ∙ sym (waiting_first p ∙ waiting_is p.sessions)
