@@ -187,3 +187,22 @@ same_count before slots same = ap (λ (n : ℕ). n + 1) same
 -- an open session's text is there
 pub not_there : (ss : List Session) (n : ℕ) (s : Session) → false ≡ is_open_session (slice_get ss n) → slice_get ss n ≡ Some s → s.is_open ≡ true → ⊥
 not_there ss n s none at is = false≢true (none ∙ ap is_open_session at ∙ is)
+
+-- other slots that stand for the same sessions
+pub slots_same : {W : Type 0} (wrapped : W → Wrapping) (before : PeerSession W) (slots : Slots SessionChannels) (p : Peer) → PeerStands wrapped before p →
+    (SlotsStand StandsFor before.slots p.sessions → SlotsStand StandsFor slots p.sessions) → (IsWhole before.slots → IsWhole slots) →
+    PeerStands wrapped (record before { slots = slots }) p
+unfolding PeerStands
+slots_same wrapped before slots p is stands whole = record {
+  role_is = is.role_is;
+  timers_are = is.timers_are;
+  own_is = is.own_is;
+  envelope_stands = is.envelope_stands;
+  remote_is = is.remote_is;
+  name_is = is.name_is;
+  asks_is = is.asks_is;
+  slots_stand = stands is.slots_stand;
+  whole = whole is.whole;
+  sound = is.sound;
+  each_goes_on = is.each_goes_on;
+}

@@ -5,3 +5,5 @@ mod Sealed
 mod Usable
 mod Waits
 mod Ends
+mod Finished
+mod Lines

@@ -79,6 +79,7 @@ fn session_of<W: Wrap + Drop>(
 {
     let first = KeySession::begin(text, 0, now);
     PeerSession {
+        alloc,
         role,
         timers,
         own,

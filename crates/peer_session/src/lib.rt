@@ -9,6 +9,8 @@ mod messages;
 mod name;
 mod numbers;
 mod packets;
+mod ready;
 mod session;
+mod ticks;
 
 pub use session::PeerSession;

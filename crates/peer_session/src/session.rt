@@ -2,6 +2,7 @@
 
 use control_link::Envelope;
 use key_sessions::Slots;
+use std::alloc::Global;
 use peer_lines::{SessionBlank, SessionChannels};
 use vpn_base::{Role, Sid, Timers};
 
@@ -10,6 +11,7 @@ use crate::name::ClientName;
 /// The session of one client with all its key sessions, whatever its control packets are wrapped by.
 #[derive(Drop)]
 pub struct PeerSession<W: Drop> {
+    pub(crate) alloc: Global,
     pub(crate) role: Role,
     pub(crate) timers: Timers,
     pub(crate) own: Sid,
