@@ -1,5 +1,5 @@
 -- What is done to the outside, one thing after the other.
-use Rattle.std.proofs.Common.{◌≡◌, ℕ, List, [], ◌∷◌, ◌++◌, map, Option, Some, None, Result, Ok, Err, IsOk, OnOk, refl, ap, sym, ◌∙◌}
+use Rattle.std.proofs.Common.{◌≡◌, ℕ, List, [], ◌∷◌, ◌++◌, map, Option, Some, None, Result, Ok, Err, IfOk, IsOk, OnOk, refl, ap, sym, ◌∙◌}
 use Rattle.std.specs.Prelude.{option_map, slice_get}
 use Rattle.std.proofs.lemmas.List.{append-nil, append_assoc}
 use Rattle.std.proofs.lemmas.Bool.{false≢true}
@@ -52,3 +52,7 @@ closing_is role ss n seen is = ap closing_seen is ∙ closing_by role n (slice_g
 pub ok_value : {A E : Type 0} (r : Result A E) (X : Type 0) → IsOk r → OnOk r X → X
 ok_value (Ok a) X is x = x
 ok_value (Err e) X is x = absurd (false≢true is)
+
+pub if_ok : {A E : Type 0} (r : Result A E) (P Q : A → Type 0) → ((a : A) → P a → Q a) → IfOk r P → IfOk r Q
+if_ok (Ok a) P Q weaker p = weaker a p
+if_ok (Err e) P Q weaker p = tt

@@ -7,3 +7,4 @@ mod Waits
 mod Ends
 mod Finished
 mod Lines
+mod Resets

@@ -1,7 +1,8 @@
 -- The session of one client in code, and the clients for which it stands.
 use Rattle.std.specs.Prelude.{◌≡◌, ◌≢◌, ◌≤◌, ℕ, suc, ◌+◌, Bool, true, false, List, [], ◌∷◌, Option, Some, None, slice_get}
 use Rattle.vpn_base.specs.declared.names.Timers.{Timers}
-use Rattle.tls_crypt.specs.Packets.{Wrapping}
+use Rattle.tls_crypt.specs.Packets.{Directions, Wrapping}
+use Rattle.tls_crypt.specs.Wrapped.{wrapped}
 use Rattle.control_link.specs.Envelope.{EnvelopeStands}
 use Rattle.peer_table.specs.KeySessions.{Session, has_keys, in_transition, kid_of, retiring}
 use Rattle.peer_table.specs.Peer.{Peer}
@@ -51,6 +52,10 @@ pub record IsPeerOf {W : Type 0} (wrapped : W → Wrapping) (s : PeerSession W) 
 -- the same as one word, which callers do not look into
 unfoldable pub PeerStands : {W : Type 0} → (W → Wrapping) → PeerSession W → Peer → Type 0
 PeerStands wrapped s p = IsPeerOf wrapped s p
+
+-- the same where control packets are wrapped under a static key
+abbrev pub SessionStands : PeerSession Directions → Peer → Type 0
+SessionStands s p = PeerStands (λ d. wrapped d.writes) s p
 
 -- ---- what the calls need of a session
 
