@@ -1,5 +1,5 @@
 -- The first NUL of a text.
-use Rattle.std.proofs.Common.{◌≡◌, ◌<◌, ◌+◌, ◌||◌, cond, ℕ, Bool, true, false, List, [], ◌∷◌, take, Option, Some, None, position, refl, sym, ap, ◌∙◌, arith}
+use Rattle.std.proofs.Common.{◌≡◌, ◌+◌, ◌||◌, cond, ℕ, Bool, true, false, List, [], ◌∷◌, take, Option, Some, None, position, refl, sym, ap, ◌∙◌, arith}
 use Rattle.std.specs.List.{before_first, list_any, position_from, position_or_len}
 use Rattle.std.proofs.lemmas.List.Quantifiers.{position-Some}
 use Rattle.std.proofs.lemmas.List.Folds.{list_any_at}

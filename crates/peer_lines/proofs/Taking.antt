@@ -1,5 +1,5 @@
 -- A control packet is taken.
-use Rattle.std.proofs.Common.{◌≡◌, ◌++◌, ℕ, List, length, max, None, Option, Result, Ok, Err, IfOk, OnOk, OnErr, refl, ap, sym, subst, ◌∙◌}
+use Rattle.std.proofs.Common.{◌≡◌, ◌++◌, ℕ, List, length, max, Option, Result, Ok, Err, IfOk, OnOk, OnErr, refl, ap, sym, subst, ◌∙◌}
 use Rattle.vpn_base.specs.declared.address.Addr.{Addr}
 use Rattle.vpn_base.specs.declared.errors.Or.{Or}
 use Rattle.vpn_base.specs.declared.errors.Or.TheVariants.{Memory, Why}
@@ -13,7 +13,7 @@ use Rattle.reliable_recv.specs.Receiving.{Arrival}
 use Rattle.tls_crypt.specs.Packets.{Wrapping}
 use Rattle.control_link.specs.declared.envelope.Envelope.{Envelope}
 use Rattle.control_link.specs.declared.link.LinkEnd.{LinkEnd}
-use Rattle.control_link.specs.Calls.{Left, Outcome, TellsGot, datagrams_to, received, unchanged, unless_memory}
+use Rattle.control_link.specs.Calls.{Left, Outcome, TellsGot, datagrams_to, received, unless_memory}
 use Rattle.control_link.specs.Envelope.{EnvelopeHistory}
 use Rattle.control_link.specs.Links.{KeptLink, Link, LinkStands}
 use Rattle.control_link.specs.Reading.{read_here, texts_here}
@@ -21,7 +21,7 @@ use Rattle.peer_table.specs.ControlPackets.{most_in_order, puts}
 use Rattle.peer_table.specs.KeySessions.{Session}
 use Rattle.peer_table.specs.Outboxes.{actions_of}
 use Rattle.peer_lines.specs.declared.channels.SessionChannels.{SessionChannels}
-use Rattle.peer_lines.specs.Calls.{LineOutcome, Leaves, packet_taken, still}
+use Rattle.peer_lines.specs.Calls.{LineOutcome, Leaves, packet_taken}
 use Rattle.peer_lines.specs.internal.Packets.{end_in}
 use Rattle.peer_lines.specs.Standing.{IsOfSession, NoneIsLonger, StandsFor}
 use Rattle.peer_lines.proofs.Links.{data_relinked}

@@ -12,7 +12,7 @@ use Rattle.reliable_recv.specs.declared.receiving.Got.{Got}
 use Rattle.reliable_recv.specs.declared.receiving.Got.TheVariants.{New, Repeat, Ahead}
 use Rattle.reliable_recv.specs.Receiving as recv
 use Rattle.reliable_recv.specs.Receiving.{Arrival, Receiving, after_next, got, next_payload, payload_of, put_into, read_as, taken_as}
-use Rattle.control_link.specs.Calls.{after_given, after_text, given_by, next_text, past_reset, put_if, received}
+use Rattle.control_link.specs.Calls.{after_given, after_text, next_text, past_reset, put_if, received}
 use Rattle.control_link.specs.Envelope.{EnvelopeHistory}
 use Rattle.control_link.specs.Links.{Link}
 use Rattle.control_link.specs.Reading.{read_here, read_with, texts_here, texts_with}

@@ -1,9 +1,8 @@
 -- What is done to the outside, one thing after the other.
-use Rattle.std.proofs.Common.{◌≡◌, ℕ, List, [], ◌∷◌, ◌++◌, map, Option, Some, None, Result, Ok, Err, IfOk, IsOk, OnOk, refl, ap, sym, ◌∙◌}
+use Rattle.std.proofs.Common.{◌≡◌, ℕ, List, [], ◌∷◌, ◌++◌, Option, Some, None, Result, Ok, Err, IfOk, IsOk, OnOk, refl, ap, sym, ◌∙◌}
 use Rattle.std.specs.Prelude.{option_map, slice_get}
 use Rattle.std.proofs.lemmas.List.{append-nil, append_assoc}
 use Rattle.std.proofs.lemmas.Bool.{false≢true}
-use Rattle.vpn_base.specs.declared.names.Conn.{Conn}
 use Rattle.vpn_base.specs.declared.names.Role.{Role}
 use Rattle.vpn_links.specs.Actions.{Action, Contents, Datagram, EngineClose, Holds}
 use Rattle.key_sessions.specs.Looks.{seen_as, seen_at}
@@ -12,7 +11,6 @@ use Rattle.peer_table.specs.Exchange.{closing}
 use Rattle.peer_table.specs.KeySessions.{Session}
 use Rattle.peer_table.specs.Outboxes.{action_of, actions_of}
 use Rattle.peer_table.specs.Peer.{Doing}
-use Rattle.peer_session.specs.internal.OpenOnes.{closings_among}
 
 pub actions_append : (role : Role) (a b : List Doing) → actions_of role (a ++ b) ≡ actions_of role a ++ actions_of role b
 actions_append role [] b = refl
@@ -21,10 +19,11 @@ actions_append role (x ∷ a) b = ap (λ (ys : List Action). action_of role x �
 -- two things that were done stand one behind the other
 pub then_done : (role : Role) (effects : List Action) (a b : List Doing) (middle after : Contents) (staged : List Datagram) →
     Holds middle (effects ++ actions_of role a) staged → Holds after (middle.effects ++ actions_of role b) middle.staged → Holds after (effects ++ actions_of role (a ++ b)) staged
-then_done role effects a b middle after staged first second =
-    (second.0 ∙ ap (λ (es : List Action). es ++ actions_of role b) first.0 ∙ append_assoc effects (actions_of role a) (actions_of role b)
+then_done role effects a b middle after staged first second = (
+  second.0 ∙ ap (λ (es : List Action). es ++ actions_of role b) first.0 ∙ append_assoc effects (actions_of role a) (actions_of role b)
       ∙ ap (λ (es : List Action). effects ++ es) (sym (actions_append role a b)),
-     second.1 ∙ first.1)
+  second.1 ∙ first.1,
+)
 
 -- the same where nothing was done first
 pub only_done : (role : Role) (a : List Doing) (before middle after : Contents) → Holds middle before.effects before.staged →

@@ -1,13 +1,13 @@
 -- Whether the newest session is finished, and late.
-use Rattle.std.proofs.Common.{◌≡◌, ℕ, zero, suc, Bool, true, false, List, Option, Some, None, refl, ap, sym, ◌∙◌}
-use Rattle.std.specs.Prelude.{not, ◌&&◌, slice_get}
+use Rattle.std.proofs.Common.{◌≡◌, ℕ, zero, suc, Bool, List, Option, Some, refl, ap, sym, ◌∙◌}
+use Rattle.std.specs.Prelude.{not, ◌&&◌}
 use Rattle.vpn_base.specs.declared.names.Conn.{Conn}
 use Rattle.peer_table.specs.ControlPackets.{is_finished_as, newest_is_finished}
 use Rattle.peer_table.specs.KeySessions.{Session, Stage, began_before, has_keys, has_passed, is_keyed, newest, newest_session}
 use Rattle.peer_table.specs.KeySessions as sessions
 use Rattle.peer_table.specs.Peer.{Peer}
 use Rattle.peer_table.specs.Time.{is_late, ticking}
-use Rattle.key_sessions.specs.Looks.{newest_as, newest_seen, stage_of}
+use Rattle.key_sessions.specs.Looks.{newest_seen, stage_of}
 use Rattle.key_sessions.specs.declared.slot.Newest.{Newest}
 use Rattle.peer_session.specs.internal.Finished.{finished_at, is_finished_seen, is_keyed_stage}
 use Rattle.peer_session.proofs.Waits.{NewestAt, newest_at}

@@ -1,12 +1,12 @@
 -- One key session is changed in its place, and its text put back: what the client's session stands for then.
-use Rattle.std.proofs.Common.{◌≡◌, ◌≢◌, ◌≤◌, ℕ, zero, suc, ◌+◌, Bool, true, false, List, [], ◌∷◌, ◌++◌, length, Option, Some, None, refl, ap, sym, subst, ◌∙◌, arith}
+use Rattle.std.proofs.Common.{◌≡◌, ◌≢◌, ℕ, zero, suc, ◌+◌, Bool, true, false, List, [], ◌∷◌, ◌++◌, length, Some, refl, ap, sym, subst, ◌∙◌, arith}
 use Rattle.std.specs.Prelude.{slice_get}
 use Rattle.std.proofs.lemmas.Bool.{false≢true}
 use Rattle.std.proofs.lemmas.Option.{none-some}
 use Rattle.tls_crypt.specs.Packets.{Wrapping}
 use Rattle.control_link.specs.declared.envelope.Envelope.{Envelope}
 use Rattle.control_link.specs.Envelope.{EnvelopeHistory, EnvelopeStands}
-use Rattle.peer_table.specs.KeySessions.{Session, has_keys, is_keyed, kid_of}
+use Rattle.peer_table.specs.KeySessions.{Session, has_keys, is_keyed}
 use Rattle.peer_table.specs.Peer.{Peer}
 use Rattle.peer_table.specs.Places.{changed_at}
 use Rattle.peer_table.specs.Time.{is_open_session}
@@ -16,7 +16,7 @@ use Rattle.key_sessions.specs.Slots.{IsWhole, SlotsStand, newest_number}
 use Rattle.peer_lines.specs.declared.channels.SessionChannels.{SessionChannels}
 use Rattle.peer_lines.specs.Standing.{StandsFor}
 use Rattle.peer_session.specs.declared.session.PeerSession.{PeerSession}
-use Rattle.peer_session.specs.Standing.{EachGoesOn, EachGoesOnUnless, EachIsSound, GoesOn, IsGoingOn, IsPeerOf, IsSound, PeerStands, count}
+use Rattle.peer_session.specs.Standing.{EachGoesOn, EachGoesOnUnless, EachIsSound, GoesOn, IsPeerOf, IsSound, PeerStands, count}
 
 -- ---- what holds of every session
 

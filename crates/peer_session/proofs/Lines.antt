@@ -1,18 +1,16 @@
 -- What no call of a control link changes: the own session id of the envelope, and the link's key id. A link that did not end the client
 -- goes on.
-use Rattle.std.proofs.Common.{◌≡◌, ℕ, ◌+◌, Bool, true, false, List, [], ◌∷◌, Option, Some, None, refl, ap, sym, ◌∙◌}
+use Rattle.std.proofs.Common.{◌≡◌, ℕ, Bool, true, false, List, [], ◌∷◌, Some, None, refl, sym}
 use Rattle.std.specs.Prelude.{if◌then◌else◌}
-use Rattle.std.proofs.lemmas.Bool.{false≢true}
 use Rattle.std.proofs.lemmas.Option.{none-some}
 use Rattle.vpn_base.specs.declared.names.Sid.{Sid}
 use Rattle.opcode_codec.specs.ControlText.{ControlForm}
 use Rattle.reliable_send.specs.Sending.{Numbered, Sending, is_full, offered, sent}
-use Rattle.control_link.specs.declared.link.LinkEnd.{LinkEnd}
 use Rattle.control_link.specs.declared.link.LinkEnd.TheVariants.{TextFull, WrapSpent}
 use Rattle.control_link.specs.Calls.{Outcome, received, said, ticked, unchanged, with_ready}
 use Rattle.control_link.specs.Envelope.{EnvelopeHistory, with_used}
 use Rattle.control_link.specs.Links.{Link}
-use Rattle.control_link.specs.Messages.{Flush, Head, behind, flushed, is_spent, send_ack, send_pieces, sent_none}
+use Rattle.control_link.specs.Messages.{Flush, Head, flushed, is_spent, send_ack, send_pieces}
 
 own_if : (b : Bool) (x y : Flush) (own : Sid) → x.envelope.own ≡ own → y.envelope.own ≡ own → (if b then x else y).envelope.own ≡ own
 own_if true x y own first second = first

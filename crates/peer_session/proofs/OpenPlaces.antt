@@ -1,11 +1,10 @@
 -- The numbers of the open sessions, and what they come to.
-use Rattle.std.proofs.Common.{◌≡◌, ◌≤◌, ℕ, zero, suc, ◌+◌, max, Bool, true, false, List, [], ◌∷◌, ◌++◌, length, take, Option, Some, None, refl, ap, sym, subst, ◌∙◌, arith}
+use Rattle.std.proofs.Common.{◌≡◌, ℕ, zero, suc, ◌+◌, max, Bool, true, false, List, [], ◌∷◌, ◌++◌, length, Option, Some, None, refl, ap, sym, subst, ◌∙◌, arith}
 use Rattle.std.specs.Prelude.{◌&&◌, option_map, slice_get, if◌then◌else◌}
-use Rattle.std.proofs.lemmas.Bool.{false≢true}
 use Rattle.std.proofs.lemmas.Option.{none-some}
 use Rattle.vpn_base.specs.declared.names.Conn.{Conn}
 use Rattle.peer_table.specs.Places.{before_if, earlier, first_place, places_from}
-use Rattle.peer_table.specs.KeySessions.{Session, is_open, kid_of, open_numbers}
+use Rattle.peer_table.specs.KeySessions.{Session, is_open, open_numbers}
 use Rattle.peer_table.specs.Exchange.{closing, has_message, most_unread, unread}
 use Rattle.peer_table.specs.Peer.{Closes, Doing}
 use Rattle.peer_table.specs.Time.{closings}

@@ -1,5 +1,5 @@
 -- The one control datagram by which a client's session begins.
-use Rattle.std.proofs.Common.{◌≡◌, ℕ, List, [], ◌∷◌, ◌++◌, length, map, Option, Some, None, refl, ap, sym, ◌∙◌, arith}
+use Rattle.std.proofs.Common.{◌≡◌, ℕ, List, [], ◌∷◌, ◌++◌, length, map, Some, ap, ◌∙◌, arith}
 use Rattle.std.specs.Prelude.{slice_get}
 use Rattle.vpn_base.specs.declared.address.Addr.{Addr}
 use Rattle.vpn_links.specs.Actions.{Action, Contents, Datagram, Holds, Wire, on_wire}

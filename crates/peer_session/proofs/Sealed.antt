@@ -1,5 +1,5 @@
 -- Data packets of one key session, as data packets of the client.
-use Rattle.std.proofs.Common.{◌≡◌, ◌≢◌, ℕ, ◌+◌, Bool, true, false, List, [], ◌∷◌, ◌++◌, Option, Some, None, Result, Ok, Err, refl, ap, sym, subst, ◌∙◌}
+use Rattle.std.proofs.Common.{◌≡◌, ℕ, ◌+◌, Bool, true, false, List, [], ◌∷◌, ◌++◌, Option, Some, None, refl, ap, subst, ◌∙◌}
 use Rattle.std.specs.Prelude.{slice_get, not, is_ok}
 use Rattle.vpn_base.specs.declared.address.Addr.{Addr}
 use Rattle.vpn_base.specs.declared.names.Freshness.{Freshness}
@@ -7,17 +7,15 @@ use Rattle.vpn_base.specs.declared.names.Freshness.TheVariants.{Fresh, Zero, Old
 use Rattle.vpn_base.specs.declared.names.Moment.{Moment}
 use Rattle.vpn_base.specs.declared.names.Role.{Role}
 use Rattle.vpn_links.specs.Actions.{Contents, Holds, Wire}
-use Rattle.packet_ids.specs.declared.sending.Spent.{Spent}
 use Rattle.packet_ids.specs.Freshness.{freshness, recorded}
 use Rattle.data_channel.specs.Channels.{received_after, received_judged}
 use Rattle.tls_crypt.specs.Packets.{Wrapping}
-use Rattle.peer_table.specs.declared.outcomes.SessionFault.{SessionFault}
 use Rattle.peer_table.specs.DataPackets.{ids_are_spent, opened_by, opened_under, sealed_by, sealed_under}
 use Rattle.peer_table.specs.DataPackets as table
 use Rattle.peer_table.specs.KeySessions.{Keys, Session, has_keys, is_keyed, keys_of, kid_of}
 use Rattle.peer_table.specs.KeySessions as sessions
 use Rattle.std.proofs.lemmas.Option.{none-some}
-use Rattle.peer_table.specs.Outboxes.{LeavesSealed, TellsOpened, wired}
+use Rattle.peer_table.specs.Outboxes.{LeavesSealed, wired}
 use Rattle.peer_table.specs.Peer.{Peer, other}
 use Rattle.peer_table.specs.Places.{changed_at}
 use Rattle.key_sessions.specs.declared.slots.Slots.{Slots}
@@ -28,7 +26,7 @@ use Rattle.peer_lines.specs.Calls.{after_opening, after_sealing, opening_answer,
 use Rattle.peer_lines.specs.Calls as lines
 use Rattle.peer_session.specs.declared.session.PeerSession.{PeerSession}
 use Rattle.peer_session.specs.Standing.{IsPeerOf, PeerStands}
-use Rattle.peer_session.proofs.Keeping.{Follows, PutBack, alike, no_change, sound_at, text_put}
+use Rattle.peer_session.proofs.Keeping.{PutBack, alike, no_change, sound_at, text_put}
 
 -- ---- sealing
 
@@ -41,7 +39,7 @@ sealed_by_case wrapped before taken slots p n s keys inner text was is_now to fa
   peer = subst (λ (ss : List Session). PeerStands wrapped (record before { slots = slots }) (record p { sessions = ss }))
       (alike p.sessions n s (λ _. record s { sealed = s.sealed + 1 }) (λ t. record t { sealed = t.sealed + 1 }) at refl)
       (text_put wrapped before taken slots p n s (record s { sealed = s.sealed + 1 }) text is stands at put text_stands
-        (record { began = refl; is_open = refl; stage = refl; kid = refl; read = λ keyed read. read; spent = λ spent. spent }));
+      (record { began = refl; is_open = refl; stage = refl; kid = refl; read = λ keyed read. read; spent = λ spent. spent }));
   outbox = subst (λ (kid : ℕ). Holds is_now (was.effects ++ Wire to (sealed_under p.role keys kid (s.sealed + 1) inner) ∷ []) was.staged) (sound_at p.sessions n s is.sound at).kid
       (subst (λ (role : Role). Holds is_now (was.effects ++ Wire to (sealed_under role keys s.link.kid (s.sealed + 1) inner) ∷ []) was.staged) is.role_is holds);
 }
@@ -49,7 +47,7 @@ sealed_by_case wrapped before taken slots p n s keys inner text was is_now to tr
   peer = subst (λ (ss : List Session). PeerStands wrapped (record before { slots = slots }) (record p { sessions = ss }))
       (no_change p.sessions n s at)
       (text_put wrapped before taken slots p n s s text is stands at put text_stands
-        (record { began = refl; is_open = refl; stage = refl; kid = refl; read = λ keyed read. read; spent = λ spent. spent }));
+      (record { began = refl; is_open = refl; stage = refl; kid = refl; read = λ keyed read. read; spent = λ spent. spent }));
   outbox = holds;
 }
 
@@ -115,11 +113,11 @@ pub opened_leaves : {W : Type 0} (wrapped : W → Wrapping) (before : PeerSessio
 unfolding after_opening
 opened_leaves wrapped before taken slots p n s keys datagram moment text is stands at put text_stands =
     let kept : StandsFor text (record s { received = received_after s.received moment (opened_under (other p.role) keys (kid_of n) datagram) }) =
-        subst (λ (kid : ℕ). StandsFor text (record s { received = received_after s.received moment (opened_under (other p.role) keys kid datagram) })) (sound_at p.sessions n s is.sound at).kid
-        (subst (λ (role : Role). StandsFor text (record s { received = received_after s.received moment (opened_under (other role) keys s.link.kid datagram) })) is.role_is text_stands) in
+    subst (λ (kid : ℕ). StandsFor text (record s { received = received_after s.received moment (opened_under (other p.role) keys kid datagram) })) (sound_at p.sessions n s is.sound at).kid
+    (subst (λ (role : Role). StandsFor text (record s { received = received_after s.received moment (opened_under (other role) keys s.link.kid datagram) })) is.role_is text_stands) in
     opened_case wrapped before slots p n s moment (opened_under (other p.role) keys (kid_of n) datagram) at
     (text_put wrapped before taken slots p n s (record s { received = received_after s.received moment (opened_under (other p.role) keys (kid_of n) datagram) }) text is stands at put kept
-      (record { began = refl; is_open = refl; stage = refl; kid = refl; read = λ keyed read. read; spent = λ spent. spent }))
+    (record { began = refl; is_open = refl; stage = refl; kid = refl; read = λ keyed read. read; spent = λ spent. spent }))
 
 judged_answer : (p : Peer) (n : ℕ) (s : Session) (moment : Moment) (id : ℕ) (inner : List ℕ) (f : Freshness) → lines.opened_judged s.received id inner f ≡ (table.opened_judged p n s moment id inner f).answer
 judged_answer p n s moment id inner Fresh = refl

@@ -1,12 +1,12 @@
 -- What is seen of a session, and where a session is.
-use Rattle.std.proofs.Common.{◌≡◌, ℕ, List, Option, Some, None, refl, ap, sym, ◌∙◌}
+use Rattle.std.proofs.Common.{◌≡◌, ℕ, Option, Some, None, refl, ap, ◌∙◌}
 use Rattle.std.specs.Prelude.{option_map, slice_get}
 use Rattle.vpn_base.specs.declared.names.Conn.{Conn}
 use Rattle.vpn_base.specs.declared.names.Place.{Place}
 use Rattle.vpn_base.specs.declared.names.Sid.{Sid}
 use Rattle.peer_table.specs.KeySessions.{Session, open_numbers, session_at, with_kid}
 use Rattle.peer_table.specs.Exchange.{conn_of, first_conn}
-use Rattle.peer_table.specs.Naming.{place, place_at, place_numbered, place_of}
+use Rattle.peer_table.specs.Naming.{place, place_at, place_numbered}
 use Rattle.peer_table.specs.Peer.{Peer}
 use Rattle.key_sessions.specs.declared.slot.SessionSeen.{SessionSeen}
 use Rattle.key_sessions.specs.Looks.{seen_as, seen_at}

@@ -1,20 +1,17 @@
 -- The sessions whose keys may be used.
-use Rattle.std.proofs.Common.{◌≡◌, ℕ, zero, suc, Bool, true, false, List, [], ◌∷◌, take, Option, Some, None, Result, Ok, Err, refl, ap, sym, subst, ◌∙◌}
+use Rattle.std.proofs.Common.{◌≡◌, ℕ, zero, suc, Bool, true, false, List, [], ◌∷◌, take, Option, Some, None, Err, refl, ap, sym, subst, ◌∙◌}
 use Rattle.std.specs.Prelude.{slice_get, ◌==◌, if◌then◌else◌}
-use Rattle.std.specs.List.{find}
 use Rattle.std.proofs.lemmas.Bool.{false≢true}
 use Rattle.std.proofs.lemmas.Option.{none-some}
 use Rattle.vpn_base.specs.declared.names.Moment.{Moment}
-use Rattle.vpn_base.specs.declared.names.Timers.{Timers}
-use Rattle.packet_ids.specs.declared.sending.Spent.{Spent}
 use Rattle.peer_table.specs.Places.{last_place, later}
 use Rattle.peer_table.specs.KeySessions.{Keys, Session, Stage, has_keys, in_transition, is_keyed, keyed_before, keys_of, kid_of, newest_usable, retiring, session_at, usable, usable_of, usable_with, with_kid}
 use Rattle.peer_table.specs.KeySessions as sessions
 use Rattle.peer_table.specs.declared.outcomes.SessionFault.TheVariants.{BadKey}
 use Rattle.peer_table.specs.DataPackets.{data_came, data_kid, ids_are_spent, opened_by, opened_in, sealed_by, sealed_in, sealed_to}
-use Rattle.peer_table.specs.Peer.{Outcome, Peer, answered}
+use Rattle.peer_table.specs.Peer.{Peer, answered}
 use Rattle.key_sessions.specs.declared.slots.Slots.{Slots}
-use Rattle.key_sessions.specs.Slots.{AreSlotsOf, LastIsOpen, SlotsStand}
+use Rattle.key_sessions.specs.Slots.{LastIsOpen, SlotsStand}
 use Rattle.peer_lines.specs.declared.channels.SessionChannels.{SessionChannels}
 use Rattle.peer_lines.specs.Standing.{StandsFor}
 use Rattle.peer_session.specs.Standing.{UsableAreOpen}

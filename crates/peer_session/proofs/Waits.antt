@@ -1,5 +1,5 @@
 -- Plain text that was not read, and messages that wait.
-use Rattle.std.proofs.Common.{◌≡◌, ◌≢◌, ℕ, zero, suc, ◌+◌, Bool, true, false, List, [], ◌∷◌, length, drop, Option, Some, None, Bor, refl, ap, sym, subst, ◌∙◌, arith}
+use Rattle.std.proofs.Common.{◌≡◌, ℕ, suc, Bool, true, false, List, [], ◌∷◌, length, Option, Some, None, Bor, refl, ap, sym, subst, ◌∙◌, arith}
 use Rattle.std.specs.Prelude.{◌&&◌, is_some, option_map, slice_get, if◌then◌else◌}
 use Rattle.std.specs.Option.{option_copied}
 use Rattle.std.specs.List.{before_first, list_any}
@@ -11,7 +11,7 @@ use Rattle.vpn_base.specs.declared.names.Policy.{Policy}
 use Rattle.key_method2.specs.declared.message.Km2.{Km2}
 use Rattle.key_method2.specs.Reading.{reading}
 use Rattle.peer_table.specs.EngineAnswers.{message_in, message_of, prepared_message, whole_of}
-use Rattle.peer_table.specs.Exchange.{after_message, after_message_in, chosen_for, cipher_ahead, has_message, is_nul, is_open_keyed, message_read, next_message, unread, waiting_in, waiting_message}
+use Rattle.peer_table.specs.Exchange.{after_message, after_message_in, chosen_for, cipher_ahead, has_message, is_nul, message_read, next_message, unread, waiting_in, waiting_message}
 use Rattle.peer_table.specs.KeySessions.{Session, Stage, has_keys, is_keyed, newest, newest_session, session_at}
 use Rattle.peer_table.specs.KeySessions as sessions
 use Rattle.peer_table.specs.Peer.{Peer, other}
@@ -159,7 +159,10 @@ passed_is s is = ap (passed_if s) is
 
 pub read_follows : (s : Session) → Follows s (message_read s)
 read_follows s = record {
-  began = refl; is_open = refl; stage = refl; kid = refl;
+  began = refl;
+  is_open = refl;
+  stage = refl;
+  kid = refl;
   read = λ keyed read e. read (omega (arith, e));
   spent = λ spent. spent;
 }

@@ -114,7 +114,14 @@ fn begin_server<W: Wrap + Drop>(
     ensures uses { Uses out.old out.new 1 0 }
     ensures first { IfOk result (λ s. count s ≡ 1) }
 {
-    let envelope = Envelope::new(alloc, wrap, own, wrap_time(now), timers.win, timers.win_secs)?;
+    let envelope = Envelope::new(
+        alloc,
+        wrap,
+        own,
+        wrap_time(now),
+        timers.win,
+        timers.win_secs,
+    )?;
     let text = first_text(alloc, Role::Server, &timers, conn)?;
     match out.add(&Effect::EngineOpen {
         conn,
@@ -169,7 +176,14 @@ fn begin_client<W: Wrap + Drop>(
     ensures uses { Uses out.old out.new 2 1200 }
     ensures first { IfOk result (λ s. count s ≡ 1) }
 {
-    let mut envelope = Envelope::new(alloc, wrap, own, wrap_time(now), timers.win, timers.win_secs)?;
+    let mut envelope = Envelope::new(
+        alloc,
+        wrap,
+        own,
+        wrap_time(now),
+        timers.win,
+        timers.win_secs,
+    )?;
     let mut text = first_text(alloc, Role::Client, &timers, conn)?;
     let mut resets = Outbox::make(alloc)?;
     match text.send_ready(&mut envelope, Sid([0; 8]), to, now, &mut resets) {

@@ -4,7 +4,6 @@
 mod begin;
 mod closing;
 mod looks;
-
 mod messages;
 mod name;
 mod numbers;

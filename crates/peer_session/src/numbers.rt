@@ -35,15 +35,24 @@ impl OpenNumbers {
         ensures { (ss : List Session) → SlotsStand StandsFor slots.now ss → result ≡ open_numbers ss }
     {
         let first = match slots.open_at(0) {
-            None => return OpenNumbers { numbers: [0, 0, 0], count: 0 },
+            None => return OpenNumbers {
+                numbers: [0, 0, 0],
+                count: 0,
+            },
             Some((number, _, _)) => number,
         };
         let second = match slots.open_at(1) {
-            None => return OpenNumbers { numbers: [first, 0, 0], count: 1 },
+            None => return OpenNumbers {
+                numbers: [first, 0, 0],
+                count: 1,
+            },
             Some((number, _, _)) => number,
         };
         let third = match slots.open_at(2) {
-            None => return OpenNumbers { numbers: [first, second, 0], count: 2 },
+            None => return OpenNumbers {
+                numbers: [first, second, 0],
+                count: 2,
+            },
             Some((number, _, _)) => number,
         };
         // There is no fourth.

@@ -87,7 +87,12 @@ impl<W: Wrap + Drop> PeerSession<W> {
     }
 
     // Opens it under the keys of the session of this number.
-    fn unseal_in(&mut self, number: u64, datagram: &mut [u8], now: Moment) -> Result<usize, SessionFault>
+    fn unseal_in(
+        &mut self,
+        number: u64,
+        datagram: &mut [u8],
+        now: Moment,
+    ) -> Result<usize, SessionFault>
         requires short { length datagram.old ≤ 65536 }
         requires goes_on { GoesOn self.old }
         ensures left { (p : Peer) (s : Session) (keys : Keys) → PeerStands W.wrapped self.old p → slice_get p.sessions number ≡ Some s → s.is_open ≡ true →
@@ -116,5 +121,9 @@ impl<W: Wrap + Drop> PeerSession<W> {
 fn kid_in(datagram: &[u8]) -> u8
     ensures { result ≡ data_kid datagram.now }
 {
-    if datagram.is_empty() { 0 } else { datagram[0] % 8 }
+    if datagram.is_empty() {
+        0
+    } else {
+        datagram[0] % 8
+    }
 }

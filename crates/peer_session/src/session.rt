@@ -1,12 +1,11 @@
 //! The session of one client.
 
+use crate::name::ClientName;
 use control_link::Envelope;
 use key_sessions::Slots;
-use std::alloc::Global;
 use peer_lines::{SessionBlank, SessionChannels};
+use std::alloc::Global;
 use vpn_base::{Role, Sid, Timers};
-
-use crate::name::ClientName;
 
 /// The session of one client with all its key sessions, whatever its control packets are wrapped by.
 #[derive(Drop)]

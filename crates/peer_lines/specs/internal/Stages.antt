@@ -1,5 +1,5 @@
 -- A session that changes its stage, or is closed.
-use Rattle.std.proofs.Common.{◌≡◌, refl, true, false, List, [], ◌∷◌, Option, Some, None, sym}
+use Rattle.std.proofs.Common.{◌≡◌, refl, false, List, [], ◌∷◌, Option, Some, None, sym}
 use Rattle.std.proofs.lemmas.Bool.{false≢true}
 use Rattle.gcm_seal.specs.declared.gcm.AnyGcm.{AnyGcm}
 use Rattle.packet_ids.specs.Window.{Kept}
@@ -8,7 +8,7 @@ use Rattle.data_channel.specs.declared.channel.DataChannel.{DataChannel}
 use Rattle.peer_table.specs.KeySessions.{Keys, Session, Stage, closed, has_keys, is_keyed, keys_of}
 use Rattle.peer_table.specs.KeySessions as sessions
 use Rattle.peer_lines.specs.declared.channels.SessionChannels.{SessionChannels}
-use Rattle.peer_lines.specs.Standing.{DataStands, IsBeforeWith, IsKeyedBy, IsOfSession, StandsFor}
+use Rattle.peer_lines.specs.Standing.{DataStands, IsBeforeWith, IsKeyedBy, StandsFor}
 
 -- there is no data channel of a session that has no keys
 no_keys : (channel : DataChannel AnyGcm) (s t : Session) (stage : Stage) (keys : Option Keys) → is_keyed stage ≡ false → IsKeyedBy channel s (keys_of stage) → IsKeyedBy channel t keys

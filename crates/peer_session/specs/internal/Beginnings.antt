@@ -1,5 +1,5 @@
 -- A client whose session 0 has begun.
-use Rattle.std.specs.Prelude.{◌≡◌, ◌≢◌, ℕ, Bool, true, false, List, [], ◌∷◌, Option, None}
+use Rattle.std.specs.Prelude.{◌≡◌, ℕ, true, false, [], ◌∷◌, None}
 use Rattle.vpn_base.specs.declared.names.Role.{Role}
 use Rattle.vpn_base.specs.declared.names.Timers.{Timers}
 use Rattle.control_link.specs.Envelope.{EnvelopeHistory}

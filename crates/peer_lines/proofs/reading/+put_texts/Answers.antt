@@ -1,16 +1,15 @@
-use Rattle.std.proofs.Common.{◌≡◌, ◌≤◌, ◌<◌, ◌+◌, ◌-◌, ◌*◌, ◌++◌, ℕ, List, [], ◌∷◌, length, Some, refl, sym, ap, subst, ◌∙◌, arith}
+use Rattle.std.proofs.Common.{◌≡◌, ◌≤◌, ◌<◌, ◌-◌, ◌++◌, ℕ, List, [], ◌∷◌, length, refl, sym, ap, subst, ◌∙◌, arith}
 use Rattle.std.proofs.lemmas.List.{append-nil}
 use Rattle.std.proofs.lemmas.Result.{on_ok_weaker}
 use Rattle.vpn_base.specs.declared.names.Role.{Role}
-use Rattle.vpn_links.specs.Actions.{Action, Holds}
+use Rattle.vpn_links.specs.Actions.{Holds}
 use Rattle.reliable_recv.specs.Receiving.{Arrival}
 use Rattle.control_link.specs.Links.{Link, LinkStands}
-use Rattle.control_link.specs.Calls.{after_text, next_text}
+use Rattle.control_link.specs.Calls.{after_text}
 use Rattle.control_link.specs.Reading.{read_here, texts_here}
 use Rattle.peer_table.specs.ControlPackets.{puts}
 use Rattle.peer_table.specs.Outboxes.{actions_of}
 use Rattle.peer_lines.specs.Standing.{NoneIsLonger}
-use Rattle.peer_lines.proofs.Links.{Frame}
 use Rattle.peer_lines.proofs.Texts.{frame_text, no_more_texts, none_read, none_texts, one_read, one_text, puts_on, read_no_more, room_left, short_text}
 use Rattle.peer_lines.proofs.reading.+put_texts.Goals as goal
 

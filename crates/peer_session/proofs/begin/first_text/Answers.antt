@@ -1,4 +1,4 @@
-use Rattle.std.proofs.Common.{◌≡◌, refl, subst}
+use Rattle.std.proofs.Common.{refl, subst}
 use Rattle.peer_table.specs.KeySessions.{session_begun}
 use Rattle.peer_lines.specs.Standing.{StandsFor}
 use Rattle.peer_session.proofs.begin.first_text.Goals as goal

@@ -1,4 +1,4 @@
-use Rattle.std.proofs.Common.{◌≡◌, ◌+◌, false, sym, ap, ◌∙◌, refl}
+use Rattle.std.proofs.Common.{◌+◌, sym, ap, ◌∙◌, refl}
 use Rattle.std.proofs.lemmas.Bool.{false≢true}
 use Rattle.peer_table.specs.KeySessions.{is_keyed}
 use Rattle.peer_session.specs.Standing.{GoesOn, PeerStands, count}

@@ -1,6 +1,6 @@
-use Rattle.std.proofs.Common.{◌≡◌, ◌≤◌, ◌+◌, ◌-◌, ◌++◌, ℕ, List, [], ◌∷◌, length, drop, true, ap, subst, ◌∙◌, arith}
+use Rattle.std.proofs.Common.{◌≡◌, ◌++◌, ℕ, List, [], ◌∷◌, length, drop, true, ap, ◌∙◌, arith}
 use Rattle.vpn_base.specs.declared.names.Conn.{Conn}
-use Rattle.vpn_links.specs.Actions.{Action, EngineWrite}
+use Rattle.vpn_links.specs.Actions.{EngineWrite}
 use Rattle.peer_table.specs.KeySessions.{Keys}
 use Rattle.peer_lines.specs.Standing.{StandsFor, has_data, is_there}
 use Rattle.peer_lines.proofs.Packets.{data_kept, made_stands, made_there}

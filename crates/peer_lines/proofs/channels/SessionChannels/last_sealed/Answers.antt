@@ -1,6 +1,6 @@
-use Rattle.std.proofs.Common.{◌≡◌, ◌==◌, true, false, length, slice_index_or, ap, sym, ◌∙◌}
+use Rattle.std.proofs.Common.{◌==◌, length, slice_index_or, ap, sym, ◌∙◌}
 use Rattle.data_channel.specs.Channels.{channel_of}
-use Rattle.peer_lines.specs.Standing.{StandsFor, has_data}
+use Rattle.peer_lines.specs.Standing.{StandsFor}
 use Rattle.peer_lines.proofs.Packets.{empty_of, none_told, sealed_told, some_of}
 use Rattle.peer_lines.proofs.channels.SessionChannels.last_sealed.Goals as goal
 

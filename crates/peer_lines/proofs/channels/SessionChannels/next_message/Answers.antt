@@ -1,5 +1,4 @@
-use Rattle.std.proofs.Common.{◌≡◌, Bool, List, ℕ, take, drop, Option, Some, None, position, ap, sym, ◌∙◌, subst}
-use Rattle.std.specs.List.{before_first, list_any}
+use Rattle.std.proofs.Common.{◌≡◌, Bool, List, ℕ, take, Some, None, position, ap, sym, ◌∙◌}
 use Rattle.peer_table.specs.Exchange.{is_nul, unread}
 use Rattle.peer_table.specs.KeySessions.{Session}
 use Rattle.peer_lines.specs.Calls.{message_if, waiting}

@@ -1,4 +1,4 @@
-use Rattle.std.proofs.Common.{◌≡◌, ◌≤◌, ◌<◌, ◌+◌, ◌*◌, ◌^◌, ℕ, length, max, false, true, None, Some, Result, Ok, Err, IsOk, OnOk, refl, sym, ◌∙◌, arith}
+use Rattle.std.proofs.Common.{None, Result, Ok, Err, IsOk, OnOk, refl, ◌∙◌, arith}
 use Rattle.std.proofs.lemmas.Bool.{false≢true}
 use Rattle.vpn_base.specs.declared.errors.NoMemory.{NoMemory}
 use Rattle.vpn_base.specs.declared.errors.Or.{Or}

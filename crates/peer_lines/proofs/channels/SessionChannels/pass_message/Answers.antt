@@ -1,15 +1,11 @@
-use Rattle.std.proofs.Common.{◌≡◌, ◌≤◌, ◌<◌, ◌+◌, ◌-◌, Bool, true, false, List, [], ◌∷◌, ℕ, length, take, drop, Option, Some, None, position, refl, ap, sym, ◌∙◌, subst, arith}
-use Rattle.std.specs.List.{before_first, list_any}
-use Rattle.std.proofs.lemmas.Bool.{false≢true}
+use Rattle.std.proofs.Common.{◌≡◌, ◌≤◌, ◌<◌, ◌+◌, Bool, List, ℕ, length, drop, Some, None, position, ap, sym, ◌∙◌, subst, arith}
+use Rattle.std.specs.List.{before_first}
 use Rattle.std.proofs.lemmas.List.{drop-drop, length-drop, length-take}
-use Rattle.gcm_seal.specs.declared.gcm.AnyGcm.{AnyGcm}
-use Rattle.packet_ids.specs.Window.{Kept}
-use Rattle.data_channel.specs.declared.channel.DataChannel.{DataChannel}
 use Rattle.peer_table.specs.Exchange.{is_nul, message_read, unread}
 use Rattle.peer_table.specs.KeySessions.{Session}
 use Rattle.peer_lines.specs.declared.channels.SessionChannels.{SessionChannels}
 use Rattle.peer_lines.specs.Calls.{after_waiting, passed_if}
-use Rattle.peer_lines.specs.Standing.{DataStands, IsOfSession, StandsFor, has_data, is_there}
+use Rattle.peer_lines.specs.Standing.{IsOfSession, StandsFor, has_data}
 use Rattle.peer_lines.proofs.Packets.{data_kept}
 use Rattle.peer_lines.proofs.Nuls.{a_nul, before_nul, no_nul}
 use Rattle.peer_lines.proofs.channels.SessionChannels.pass_message.Goals as goal

@@ -1,4 +1,3 @@
-use Rattle.std.proofs.Common.{◌≡◌, []}
 use Rattle.control_link.specs.Calls.{said}
 use Rattle.peer_lines.specs.Calls.{text_offered}
 use Rattle.peer_lines.specs.Standing.{StandsFor}

@@ -1,4 +1,4 @@
-use Rattle.std.proofs.Common.{◌≡◌, []}
+use Rattle.std.proofs.Common.{[]}
 use Rattle.control_link.specs.Calls.{with_ready}
 use Rattle.peer_lines.specs.Calls.{begun_sent}
 use Rattle.peer_lines.specs.Standing.{StandsFor}

@@ -1,4 +1,3 @@
-use Rattle.std.proofs.Common.{◌≡◌, []}
 use Rattle.control_link.specs.Calls.{ticked}
 use Rattle.peer_lines.specs.Calls.{due_sent}
 use Rattle.peer_lines.specs.Standing.{StandsFor}

@@ -1,4 +1,3 @@
-use Rattle.std.proofs.Common.{◌≡◌}
 use Rattle.peer_lines.specs.Calls.{after_opening, opening_answer}
 use Rattle.peer_lines.specs.Standing.{StandsFor, has_data}
 use Rattle.peer_lines.proofs.Packets.{first_set, first_stands}

@@ -1,4 +1,4 @@
-use Rattle.std.proofs.Common.{◌≡◌, ap, sym, ◌∙◌, refl}
+use Rattle.std.proofs.Common.{ap, ◌∙◌}
 use Rattle.std.proofs.Common.{arith}
 use Rattle.peer_session.proofs.OpenPlaces.{listed_number, none_of, number_of, one_of, two_of, three_of}
 use Rattle.peer_session.proofs.numbers.OpenNumbers.of.Goals as goal

@@ -1,4 +1,4 @@
-use Rattle.std.proofs.Common.{◌≡◌, Some, None, ap, sym, ◌∙◌}
+use Rattle.std.proofs.Common.{Some, None, sym, ◌∙◌}
 use Rattle.peer_session.specs.Standing.{PeerStands}
 use Rattle.peer_session.proofs.Seen.{first_is}
 use Rattle.peer_session.proofs.session.PeerSession.first_conn.Goals as goal

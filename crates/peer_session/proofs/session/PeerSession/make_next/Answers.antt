@@ -1,5 +1,4 @@
-use Rattle.std.proofs.Common.{◌≡◌, ap, sym, ◌∙◌}
-use Rattle.peer_session.specs.Standing.{GoesOn, PeerStands, count}
+use Rattle.std.proofs.Common.{◌∙◌}
 use Rattle.peer_session.proofs.Keeping.{goes_on_with, same_count, slots_same, whole_of}
 use Rattle.peer_session.proofs.session.PeerSession.make_next.Goals as goal
 

@@ -1,4 +1,4 @@
-use Rattle.std.proofs.Common.{◌≡◌, ◌∙◌}
+use Rattle.std.proofs.Common.{◌∙◌}
 use Rattle.peer_session.specs.Standing.{PeerStands}
 use Rattle.peer_session.proofs.Finished.{finished_is}
 use Rattle.peer_session.proofs.session.PeerSession.newest_is_finished.Goals as goal

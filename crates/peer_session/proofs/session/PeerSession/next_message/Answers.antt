@@ -1,7 +1,5 @@
-use Rattle.std.proofs.Common.{◌≡◌, true, false, Some, None, ap, sym, subst, ◌∙◌, refl}
-use Rattle.std.specs.Prelude.{is_some, option_map, slice_get}
-use Rattle.std.specs.Option.{option_copied}
-use Rattle.peer_session.specs.Standing.{GoesOn, PeerStands}
+use Rattle.std.proofs.Common.{sym, ◌∙◌}
+use Rattle.peer_session.specs.Standing.{PeerStands}
 use Rattle.peer_session.proofs.Waits.{message_is, no_message, waiting_at}
 use Rattle.peer_session.proofs.session.PeerSession.next_message.Goals as goal
 

@@ -1,10 +1,8 @@
-use Rattle.std.proofs.Common.{◌≡◌, true, false, Some, None, ap, sym, subst, ◌∙◌, refl}
-use Rattle.std.specs.Prelude.{is_some, option_map, slice_get}
-use Rattle.std.specs.Option.{option_copied}
-use Rattle.peer_session.specs.Standing.{GoesOn, PeerStands}
-use Rattle.peer_session.proofs.Keeping.{PutBack, alike, goes_on_with, not_there, same_count, sound_at, text_put, whole_of}
+use Rattle.std.proofs.Common.{ap, sym, subst, ◌∙◌, refl}
+use Rattle.std.specs.Prelude.{is_some}
+use Rattle.peer_session.specs.Standing.{PeerStands}
+use Rattle.peer_session.proofs.Keeping.{alike, goes_on_with, not_there, same_count, sound_at, text_put, whole_of}
 use Rattle.peer_session.proofs.Waits.{passed_is, read_follows, waits_of}
-use Rattle.peer_table.specs.KeySessions.{Session}
 use Rattle.peer_table.specs.Exchange.{message_read}
 use Rattle.peer_lines.specs.Standing.{StandsFor}
 use Rattle.peer_session.proofs.session.PeerSession.pass_at.Goals as goal
@@ -36,7 +34,7 @@ returns-in-Some-clause-passed g c = λ p s stands at waits.
     subst (λ ss. PeerStands g.W.Wrap.wrapped (record c.args.self.now { slots = c.put_text.new.self }) (record p { sessions = ss }))
     (alike p.sessions c.args.number s (λ _. message_read s) message_read at refl)
     (text_put g.W.Wrap.wrapped c.args.self.now c.take_text.new.self c.put_text.new.self p c.args.number s (message_read s) c.pass_message.new.self stands
-      (c.take_text.ensures.stands p.sessions stands.slots_stand) at (record { stands = c.put_text.ensures.stands; whole = c.put_text.ensures.whole }) passed (read_follows s))
+    (c.take_text.ensures.stands p.sessions stands.slots_stand) at (record { stands = c.put_text.ensures.stands; whole = c.put_text.ensures.whole }) passed (read_follows s))
 
 pub returns-in-Some-clause-goes_on : goal.returns-in-Some-clause-goes_on
 unfolding PeerStands

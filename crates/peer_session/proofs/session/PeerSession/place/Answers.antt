@@ -1,4 +1,4 @@
-use Rattle.std.proofs.Common.{◌≡◌, Some, None, ap, sym, ◌∙◌}
+use Rattle.std.proofs.Common.{sym, ◌∙◌}
 use Rattle.peer_session.specs.Standing.{PeerStands}
 use Rattle.peer_session.proofs.Seen.{placed, placed_none}
 use Rattle.peer_session.proofs.session.PeerSession.place.Goals as goal

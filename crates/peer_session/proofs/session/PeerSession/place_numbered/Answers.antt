@@ -1,4 +1,4 @@
-use Rattle.std.proofs.Common.{◌≡◌, Some, None, ap, sym, ◌∙◌}
+use Rattle.std.proofs.Common.{Some, None, ap, sym, ◌∙◌}
 use Rattle.peer_session.specs.Standing.{PeerStands}
 use Rattle.peer_session.proofs.Seen.{place_is, place_seen}
 use Rattle.peer_session.proofs.session.PeerSession.place_numbered.Goals as goal

@@ -1,7 +1,5 @@
-use Rattle.std.proofs.Common.{◌≡◌, true, false, Some, None, ap, sym, subst, ◌∙◌, refl}
-use Rattle.std.specs.Prelude.{is_some, option_map, slice_get}
-use Rattle.std.specs.Option.{option_copied}
-use Rattle.peer_session.specs.Standing.{GoesOn, PeerStands}
+use Rattle.std.proofs.Common.{◌∙◌}
+use Rattle.peer_session.specs.Standing.{PeerStands}
 use Rattle.peer_session.proofs.Waits.{keyed_none, named_message, named_of, newest_at, newest_number_is, opening_none}
 use Rattle.peer_session.proofs.session.PeerSession.prepared.Goals as goal
 

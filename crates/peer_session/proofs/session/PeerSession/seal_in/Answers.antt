@@ -1,9 +1,6 @@
-use Rattle.std.proofs.Common.{◌≡◌, true, false, Some, None, ap, sym, subst, ◌∙◌, refl}
-use Rattle.std.proofs.lemmas.Bool.{false≢true}
+use Rattle.std.proofs.Common.{ap, sym, ◌∙◌}
 use Rattle.std.specs.Prelude.{is_some}
-use Rattle.peer_table.specs.KeySessions.{Session}
-use Rattle.peer_table.specs.Time.{is_open_session}
-use Rattle.peer_session.specs.Standing.{GoesOn, PeerStands}
+use Rattle.peer_session.specs.Standing.{PeerStands}
 use Rattle.peer_session.proofs.Keeping.{goes_on_with, not_there, same_count, sound_at, whole_of}
 use Rattle.peer_session.proofs.Sealed.{has_them, sealed_leaves, sealed_ok}
 use Rattle.peer_session.proofs.session.PeerSession.seal_in.Goals as goal

@@ -1,7 +1,6 @@
-use Rattle.std.proofs.Common.{◌≡◌, true, false, Some, None, ap, sym, subst, ◌∙◌, refl}
-use Rattle.std.specs.Prelude.{is_some, option_map, slice_get}
-use Rattle.std.specs.Option.{option_copied}
-use Rattle.peer_session.specs.Standing.{GoesOn, PeerStands}
+use Rattle.std.proofs.Common.{ap, sym, ◌∙◌}
+use Rattle.std.specs.Prelude.{is_some, slice_get}
+use Rattle.peer_session.specs.Standing.{PeerStands}
 use Rattle.peer_session.proofs.Waits.{open_there, unread_none, unread_some}
 use Rattle.peer_session.proofs.session.PeerSession.unread_at.Goals as goal
 

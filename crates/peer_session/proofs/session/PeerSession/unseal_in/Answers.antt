@@ -1,7 +1,7 @@
-use Rattle.std.proofs.Common.{◌≡◌, true, false, Some, None, ap, sym, subst, ◌∙◌, refl}
+use Rattle.std.proofs.Common.{ap, sym, subst, ◌∙◌}
 use Rattle.std.specs.Prelude.{is_some}
 use Rattle.peer_table.specs.Outboxes.{TellsOpened}
-use Rattle.peer_session.specs.Standing.{GoesOn, PeerStands}
+use Rattle.peer_session.specs.Standing.{PeerStands}
 use Rattle.peer_session.proofs.Keeping.{goes_on_with, not_there, same_count, sound_at, whole_of}
 use Rattle.peer_session.proofs.Sealed.{has_them, opened_leaves, opened_tells}
 use Rattle.peer_session.proofs.session.PeerSession.unseal_in.Goals as goal

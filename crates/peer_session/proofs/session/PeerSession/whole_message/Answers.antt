@@ -1,7 +1,6 @@
-use Rattle.std.proofs.Common.{◌≡◌, true, false, Some, None, ap, sym, subst, ◌∙◌, refl}
-use Rattle.std.specs.Prelude.{is_some, option_map, slice_get}
-use Rattle.std.specs.Option.{option_copied}
-use Rattle.peer_session.specs.Standing.{GoesOn, PeerStands}
+use Rattle.std.proofs.Common.{ap, sym, ◌∙◌}
+use Rattle.std.specs.Prelude.{is_some}
+use Rattle.peer_session.specs.Standing.{PeerStands}
 use Rattle.peer_session.proofs.Keeping.{not_there}
 use Rattle.peer_table.specs.KeySessions.{is_keyed}
 use Rattle.peer_table.specs.Peer.{other}
