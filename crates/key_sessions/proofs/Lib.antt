@@ -12,3 +12,4 @@ mod Exchanges
 mod Exchanged
 mod Coming
 mod RunLaws
+pub mod Held

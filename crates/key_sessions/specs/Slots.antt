@@ -110,6 +110,15 @@ abbrev pub HasTextAt : {T : Type 0} → Option (Slot T) → Type 0
 HasTextAt None = Unit {0}
 HasTextAt (Some slot) = HasText (is_open_stage slot.stage) slot.text
 
+-- the text in a slot, if there is one
+abbrev pub text_in : {T : Type 0} → Option (Slot T) → Option T
+text_in None = None
+text_in (Some slot) = slot.text
+
+-- the text of the session of this number, while it is open and not out
+unfoldable pub text_at : {T : Type 0} → Slots T → ℕ → Option T
+text_at slots number = text_in (slice_get (all_slots slots) number)
+
 -- no text is out
 unfoldable pub IsWhole : {T : Type 0} → Slots T → Type 0
 IsWhole slots = (n : ℕ) → HasTextAt (slice_get (all_slots slots) n)

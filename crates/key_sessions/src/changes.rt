@@ -1,6 +1,6 @@
 //! What changes the sessions of a client.
 
-ghost use Rattle.std.specs.Prelude.{◌≡◌, ◌≢◌, ◌+◌, ◌≤◌, ◌++◌, ◌∷◌, [], ℕ, List, is_ok, IsSome, IfOk, IfErr, IfSome, IsOk, OnOk, OnErr, Some, None, MatchResult, is_some, slice_get};
+ghost use Rattle.std.specs.Prelude.{◌≡◌, ◌≢◌, ◌+◌, ◌≤◌, ◌++◌, ◌∷◌, [], ℕ, List, is_ok, IsSome, IfOk, IfErr, IfSome, IfNone, IsOk, OnOk, OnErr, Some, None, MatchResult, is_some, slice_get};
 ghost use Rattle.std.specs.Option.{option_copied};
 ghost use Rattle.vpn_base.specs.declared.errors.Or.TheVariants.{Memory, Why};
 ghost use Rattle.peer_table.specs.EngineAnswers.{kept_name};
@@ -14,7 +14,7 @@ ghost use Rattle.peer_table.specs.Places.{changed_at};
 ghost use Rattle.peer_table.specs.Time.{is_open_session, retired};
 ghost use Rattle.key_sessions.specs.Changes.{KeepsPlace, closed_in, exchanged_in, newest_keyed, newest_named, one_closed, one_too_many};
 ghost use Rattle.key_sessions.specs.Sessions.{OpeningStands, keys_made};
-ghost use Rattle.key_sessions.specs.Slots.{IsWhole, IsWholeBut, SlotsStand, newest_name, newest_number, newest_stage, room};
+ghost use Rattle.key_sessions.specs.Slots.{IsWhole, IsWholeBut, SlotsStand, newest_name, newest_number, newest_stage, room, text_at};
 ghost use Rattle.key_sessions.specs.declared.slot.Stage.TheVariants as stages;
 
 use crate::name::{NameFault, judge_name};
@@ -27,7 +27,7 @@ use vpn_base::{Moment, NoMemory, Or, Policy, Sid};
 
 impl<T: SessionText> Slots<T> {
     /// Takes the room for one more session.
-    #[tactic(auto, unfolding(crate::specs::Slots::SlotsStand, crate::specs::Slots::IsWhole, crate::specs::Slots::newest_stage, crate::specs::Slots::newest_number, crate::specs::Slots::room))]
+    #[tactic(auto, unfolding(crate::specs::Slots::SlotsStand, crate::specs::Slots::IsWhole, crate::specs::Slots::newest_stage, crate::specs::Slots::newest_number, crate::specs::Slots::room, crate::specs::Slots::text_at))]
     pub fn reserve(&mut self) -> Result<(), NoMemory>
         ensures stands { (ss : List Session) → SlotsStand T.stands_for self.old ss → SlotsStand T.stands_for self.new ss }
         ensures ok { OnOk result (1 ≤ room self.new) }
@@ -36,6 +36,7 @@ impl<T: SessionText> Slots<T> {
         ensures whole { IsWhole self.old → IsWhole self.new }
         ensures stage { newest_stage self.new ≡ newest_stage self.old }
         ensures number { newest_number self.new ≡ newest_number self.old }
+        ensures texts { (n : ℕ) → text_at self.new n ≡ text_at self.old n }
     {
         self.earlier.reserve(1)?;
         Ok(())
@@ -70,7 +71,7 @@ impl<T: SessionText> Slots<T> {
 
     /// Takes the text of an open session out of the slots, until `put_text` puts it back. None comes exactly
     /// where there is no open session of this number.
-    #[tactic(auto, unfolding(crate::specs::Slots::newest_number))]
+    #[tactic(auto, unfolding(crate::specs::Slots::newest_number, crate::specs::Slots::text_at))]
     pub fn take_text(&mut self, number: u64) -> Option<T>
         requires { IsWhole self.old }
         ensures some { (ss : List Session) → SlotsStand T.stands_for self.old ss → is_some result ≡ is_open_session (slice_get ss number) }
@@ -78,16 +79,19 @@ impl<T: SessionText> Slots<T> {
             slice_get ss number ≡ Some s → T.stands_for text s) }
         ensures stands { (ss : List Session) → SlotsStand T.stands_for self.old ss → SlotsStand T.stands_for self.new ss }
         ensures whole { IsWholeBut number self.new }
+        ensures none { IfNone result (IsWhole self.new) }
         ensures stage { newest_stage self.new ≡ newest_stage self.old }
         ensures number { newest_number self.new ≡ newest_number self.old }
         ensures room { room self.new ≡ room self.old }
+        ensures taken { result ≡ text_at self.old number }
+        ensures others { (n : ℕ) → n ≢ number → text_at self.new n ≡ text_at self.old n }
     {
         self.change(number, Change::Take)
     }
 
     /// Puts a text back, for what has become of the session of this number meanwhile: any change of it that
     /// leaves alone its beginning, its stage and whether it is open.
-    #[tactic(auto, unfolding(crate::specs::Slots::newest_number))]
+    #[tactic(auto, unfolding(crate::specs::Slots::newest_number, crate::specs::Slots::text_at))]
     pub fn put_text(&mut self, number: u64, text: T)
         requires { IsWholeBut number self.old }
         ensures stands { (ss : List Session) (change : Session → Session) → SlotsStand T.stands_for self.old ss →
@@ -98,6 +102,8 @@ impl<T: SessionText> Slots<T> {
         ensures stage { newest_stage self.new ≡ newest_stage self.old }
         ensures number { newest_number self.new ≡ newest_number self.old }
         ensures room { room self.new ≡ room self.old }
+        ensures put { IfSome (text_at self.new number) (λ here. here ≡ text) }
+        ensures others { (n : ℕ) → n ≢ number → text_at self.new n ≡ text_at self.old n }
     {
         let conn = conn_of(&text);
         let _ = self.change(number, Change::Put(text, conn));

@@ -13,7 +13,7 @@ mod slot;
 mod slots;
 mod text;
 
-pub use laws::sessions_are_changed_one_by_one;
+pub use laws::{sessions_are_changed_one_by_one, sessions_are_open_without_keys};
 pub use name::NameFault;
 pub use runs::{SlotAnswer, SlotEvent, SlotSetup, run_slots};
 pub use session::{KeySession, Keyed, Named, NoCipher, Opening, cipher_chosen, kid_of};

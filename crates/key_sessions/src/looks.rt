@@ -1,6 +1,6 @@
 //! What the slots tell of their sessions.
 
-ghost use Rattle.std.specs.Prelude.{◌≡◌, ◌≤◌, ◌==◌, List, Some, None, option_map, slice_get, if◌then◌else◌};
+ghost use Rattle.std.specs.Prelude.{◌≡◌, ◌≤◌, ◌==◌, List, Some, None, IfSome, is_some, option_map, slice_get, if◌then◌else◌};
 ghost use Rattle.std.specs.Option.{option_copied};
 ghost use Rattle.vpn_base.specs.declared.names.Timers.{Timers};
 ghost use Rattle.peer_table.specs.EngineAnswers.{open_with};
@@ -9,7 +9,7 @@ ghost use Rattle.peer_table.specs.KeySessions.{Session, has_passed, in_transitio
 ghost use Rattle.peer_table.specs.Peer.{Peer};
 ghost use Rattle.peer_table.specs.Time.{is_open_session, retired, retired_if};
 ghost use Rattle.key_sessions.specs.Looks.{began_of, keyed_with, keys_of_some, listed, listed_at, newest_seen, seen_as, seen_at};
-ghost use Rattle.key_sessions.specs.Slots.{LastIsOpen, SlotStands, SlotsStand, newest_name, newest_number, newest_stage};
+ghost use Rattle.key_sessions.specs.Slots.{IsWhole, LastIsOpen, SlotStands, SlotsStand, newest_name, newest_number, newest_stage, text_at};
 ghost use Rattle.key_sessions.specs.internal.Numbers.{number_before_that};
 
 use crate::session::kid_of;
@@ -213,6 +213,21 @@ impl<T: SessionText> Slots<T> {
         match self.slot(number) {
             None => false,
             Some(slot) => slot.stage.is_open(),
+        }
+    }
+
+    /// The text of the session of this number. None exactly where there is no open session of it, or where the
+    /// text is out.
+    #[tactic(auto, unfolding(crate::specs::Slots::text_at))]
+    pub fn text(&self, number: u64) -> Option<&T>
+        ensures some { IsWhole self.now → (ss : List Session) → SlotsStand T.stands_for self.now ss → is_some result ≡ is_open_session (slice_get ss number) }
+        ensures text { IfSome result (λ text. (ss : List Session) (s : Session) → SlotsStand T.stands_for self.now ss →
+            slice_get ss number ≡ Some s → T.stands_for text.now s) }
+        ensures here { option_copied result ≡ text_at self.now number }
+    {
+        match self.slot(number) {
+            None => None,
+            Some(slot) => slot.text.as_ref(),
         }
     }
 

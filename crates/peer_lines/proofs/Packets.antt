@@ -1,5 +1,5 @@
 -- The data channel of a session, in its place.
-use Rattle.std.proofs.Common.{◌≡◌, ◌≢◌, ◌↔◌, ◌==◌, ℕ, Bool, true, false, not, List, [], ◌∷◌, slice_index_or, slice_set, Option, Some, None, Result, Ok, Err, OnOk, OnErr, IsErr, is_ok, refl, ap, sym, subst, arith}
+use Rattle.std.proofs.Common.{◌≡◌, ◌≢◌, ◌↔◌, ◌==◌, ℕ, suc, Bool, true, false, not, List, [], ◌∷◌, length, slice_index_or, slice_set, Option, Some, None, Result, Ok, Err, OnOk, OnErr, IsErr, is_ok, refl, ap, sym, subst, ◌∙◌, arith}
 use Rattle.std.proofs.lemmas.Bool.{false≢true}
 use Rattle.gcm_seal.specs.declared.gcm.AnyGcm.{AnyGcm}
 use Rattle.packet_ids.specs.declared.sending.Spent.{Spent}
@@ -126,3 +126,33 @@ none_before window (x ∷ more) s none stands = absurd (not_keyed x s s.stage no
 pub there_after : (window : Option Kept) (packets : List (DataChannel AnyGcm)) (s : Session) → DataStands window packets s → s.read ≢ 0 → is_there packets ≡ true
 there_after window [] s stands some = absurd (some (unread_of window s stands))
 there_after window (x ∷ more) s stands some = refl
+
+-- ---- what was sealed
+
+keyed_told : (channel : DataChannel AnyGcm) (s : Session) (last : ℕ) (keys : Option Keys) → IsKeyedBy channel s keys →
+    ((k : Keys) (kid : ℕ) (received : History) (sealed : ℕ) → GcmKeysStand channel k kid received sealed → last ≡ sealed) → last ≡ s.sealed
+keyed_told channel s last None stands told = elim stands [ ]
+keyed_told channel s last (Some keys) stands told = told keys s.link.kid s.received s.sealed stands
+
+-- that of the data channel is the session's
+pub sealed_told : (window : Option Kept) (packets : List (DataChannel AnyGcm)) (s : Session) (channel : DataChannel AnyGcm) (last : ℕ) →
+    is_there packets ≡ true → channel ≡ slice_index_or packets 0 channel → DataStands window packets s →
+    ((k : Keys) (kid : ℕ) (received : History) (sealed : ℕ) → GcmKeysStand channel k kid received sealed → last ≡ sealed) → last ≡ s.sealed
+sealed_told window [] s channel last there is stands told = absurd (false≢true there)
+sealed_told window (x ∷ more) s channel last there is stands told =
+    keyed_told channel s last (keys_of s.stage) (subst (λ (c : DataChannel AnyGcm). IsKeyedBy c s (keys_of s.stage)) (sym is) stands) told
+
+pub none_told : (window : Option Kept) (packets : List (DataChannel AnyGcm)) (s : Session) → is_there packets ≡ false → DataStands window packets s → 0 ≡ s.sealed
+none_told window packets s none stands = sym (unsealed_of window s (before_of window packets s none stands))
+
+not_none : (n : ℕ) → (suc n == 0) ≡ false
+not_none n = grind arith
+
+-- whether it is there, by how many there are
+pub empty_of : (packets : List (DataChannel AnyGcm)) → true ≡ (length packets == 0) → is_there packets ≡ false
+empty_of [] is = refl
+empty_of (x ∷ more) is = absurd (false≢true (sym (not_none (length more)) ∙ sym is))
+
+pub some_of : (packets : List (DataChannel AnyGcm)) → false ≡ (length packets == 0) → is_there packets ≡ true
+some_of [] is = absurd (false≢true is)
+some_of (x ∷ more) is = refl

@@ -90,6 +90,17 @@ impl SessionChannels {
         self.plain.len()
     }
 
+    /// The last packet id that was sealed under its keys, and 0 before the first.
+    pub fn last_sealed(&self) -> u32
+        ensures { (s : Session) → StandsFor self.now s → result ≡ s.sealed }
+    {
+        let packets = self.packets.as_slice();
+        if packets.is_empty() {
+            return 0;
+        }
+        packets[0].last_sealed()
+    }
+
     /// Whether its data channel is there.
     #[tactic(auto, unfolding(crate::specs::Standing::has_data))]
     pub fn has_data(&self) -> bool

@@ -1,5 +1,6 @@
 use Rattle.key_sessions.specs.declared.slot.Change.TheVariants.{Take}
 use Rattle.key_sessions.proofs.Steps.{answer_stands, taken_stands, taken_there, taken_whole}
+use Rattle.key_sessions.proofs.Held.{none_taken, other_text}
 use Rattle.key_sessions.proofs.slots.Slots.take_text.Goals as goal
 
 pub returns-clause-some : goal.returns-clause-some
@@ -13,3 +14,9 @@ returns-clause-stands g c = λ ss are. taken_stands g.T.SessionText.stands_for c
 
 pub returns-clause-whole : goal.returns-clause-whole
 returns-clause-whole g c = taken_whole c.args.self.now c.change.new.self c.args.number (record { slot = c.change.ensures.slot; none = c.change.ensures.none }) c.requires
+
+pub returns-clause-others : goal.returns-clause-others
+returns-clause-others g c = λ n other. other_text c.args.self.now c.change.new.self Take c.args.number n (record { slot = c.change.ensures.slot; none = c.change.ensures.none }) other
+
+pub returns-clause-none : goal.returns-clause-none
+returns-clause-none g c = none_taken c.args.self.now c.change.new.self c.args.number c.change.result c.change.ensures.text (record { slot = c.change.ensures.slot; none = c.change.ensures.none }) c.requires

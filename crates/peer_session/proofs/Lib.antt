@@ -1,0 +1,10 @@
+mod Seen
+mod OpenPlaces
+mod Keeping
+mod Sealed
+mod Usable
+mod Waits
+mod Ends
+mod Finished
+mod Lines
+mod Resets

@@ -1,0 +1,48 @@
+-- What is seen of a session, and where a session is.
+use Rattle.std.proofs.Common.{◌≡◌, ℕ, Option, Some, None, refl, ap, ◌∙◌}
+use Rattle.std.specs.Prelude.{option_map, slice_get}
+use Rattle.vpn_base.specs.declared.names.Conn.{Conn}
+use Rattle.vpn_base.specs.declared.names.Place.{Place}
+use Rattle.vpn_base.specs.declared.names.Sid.{Sid}
+use Rattle.peer_table.specs.KeySessions.{Session, open_numbers, session_at, with_kid}
+use Rattle.peer_table.specs.Exchange.{conn_of, first_conn}
+use Rattle.peer_table.specs.Naming.{place, place_at, place_numbered}
+use Rattle.peer_table.specs.Peer.{Peer}
+use Rattle.key_sessions.specs.declared.slot.SessionSeen.{SessionSeen}
+use Rattle.key_sessions.specs.Looks.{seen_as, seen_at}
+
+-- its connection
+abbrev pub conn_seen : Option SessionSeen → Option Conn
+conn_seen None = None
+conn_seen (Some seen) = Some seen.conn
+
+first_by : (n : ℕ) (o : Option Session) → conn_seen (option_map (seen_as n) o) ≡ conn_of o
+first_by n None = refl
+first_by n (Some s) = refl
+
+-- the connection of session 0 as it is seen
+pub first_is : (p : Peer) (seen : Option SessionSeen) → seen ≡ seen_at p.sessions 0 → conn_seen seen ≡ first_conn p
+unfolding first_conn seen_at
+first_is p seen is = ap conn_seen is ∙ first_by 0 (slice_get p.sessions 0)
+
+-- the place of a session by what is seen of it
+abbrev pub place_seen : Sid → Option Sid → ℕ → Option SessionSeen → Option Place
+place_seen own remote n None = None
+place_seen own remote n (Some seen) = Some (record { conn = seen.conn; own = own; peer = remote; number = n })
+
+place_by : (p : Peer) (n : ℕ) (o : Option Session) → place_seen p.envelope.own p.remote n (option_map (seen_as n) o) ≡ place_at p (Some n) o
+place_by p n None = refl
+place_by p n (Some s) = refl
+
+pub place_is : (p : Peer) (n : ℕ) (seen : Option SessionSeen) → seen ≡ seen_at p.sessions n → place_seen p.envelope.own p.remote n seen ≡ place_numbered n p
+unfolding place_numbered seen_at
+place_is p n seen is = ap (place_seen p.envelope.own p.remote n) is ∙ place_by p n (slice_get p.sessions n)
+
+-- the place of the open session with a key id
+pub placed : (p : Peer) (kid : ℕ) (n : ℕ) → Some n ≡ with_kid kid (open_numbers p.sessions) → place_numbered n p ≡ place kid p
+unfolding place_numbered place
+placed p kid n is = ap (λ (o : Option ℕ). place_at p o (session_at p.sessions o)) is
+
+pub placed_none : (p : Peer) (kid : ℕ) → None ≡ with_kid kid (open_numbers p.sessions) → None ≡ place kid p
+unfolding place
+placed_none p kid is = ap (λ (o : Option ℕ). place_at p o (session_at p.sessions o)) is

@@ -1,0 +1,4 @@
+-- What only private functions cite.
+pub mod OpenOnes
+pub mod Beginnings
+pub mod Finished

@@ -1,0 +1,66 @@
+//! What is due at a moment.
+
+ghost use Rattle.std.specs.Prelude.{◌≡◌, ℕ, Bool, ◌&&◌, ◌*◌, ◌^◌, Some, nat_le, slice_get};
+ghost use Rattle.vpn_base.specs.declared.names.Conn.{Conn};
+ghost use Rattle.key_sessions.specs.Looks.{newest_seen};
+ghost use Rattle.peer_table.specs.ControlPackets.{newest_is_finished};
+ghost use Rattle.peer_table.specs.KeySessions.{Session, has_passed};
+ghost use Rattle.peer_table.specs.Peer.{Peer};
+ghost use Rattle.peer_table.specs.Time.{is_late, renews, ticking};
+ghost use Rattle.peer_session.specs.Standing.{PeerStands};
+ghost use Rattle.peer_session.specs.internal.Finished.{is_finished_seen, is_keyed_stage};
+
+use crate::session::PeerSession;
+use key_sessions::{Newest, Stage};
+use tls_crypt::Wrap;
+use vpn_base::Moment;
+
+// Whether so many seconds have passed since a moment.
+fn has_passed(seconds: u32, since: Moment, now: Moment) -> bool
+    ensures { result ≡ has_passed seconds since.0 now.0 }
+{
+    match since.0.checked_add(1000 * u64::from(seconds)) {
+        None => false,
+        Some(end) => end <= now.0,
+    }
+}
+
+// Whether a session has keys.
+fn is_keyed(stage: Stage) -> bool
+    ensures { result ≡ is_keyed_stage stage }
+{
+    match stage {
+        Stage::Opening => false,
+        Stage::Named => false,
+        Stage::Keyed => true,
+    }
+}
+
+// Whether the newest session is finished.
+fn is_finished(established: bool, newest: Newest) -> bool
+    ensures { result ≡ is_finished_seen established newest }
+{
+    if newest.number == 0 {
+        is_keyed(newest.stage) && established
+    } else {
+        is_keyed(newest.stage)
+    }
+}
+
+impl<W: Wrap + Drop> PeerSession<W> {
+    // Whether the newest session is finished.
+    pub(crate) fn newest_is_finished(&self, established: bool) -> bool
+        ensures { (p : Peer) → PeerStands W.wrapped self.now p → result ≡ newest_is_finished established p.sessions }
+    {
+        is_finished(established, self.slots.newest())
+    }
+
+    // Whether the newest session had its time to finish and did not.
+    pub(crate) fn is_late(&self, established: bool, now: Moment) -> bool
+        ensures { (p : Peer) (next_conn : Conn) (idle : Bool) → PeerStands W.wrapped self.now p →
+            result ≡ is_late p (ticking now.0 next_conn established idle) }
+    {
+        let newest = self.slots.newest();
+        !is_finished(established, newest) && has_passed(self.timers.hand, newest.began, now)
+    }
+}
