@@ -1,5 +1,5 @@
 -- How far a step has come, as it begins and after one effect more.
-use Rattle.std.proofs.Common.{◌≡◌, ℕ, ◌+◌, ◌^◌, ◌≤◌, Bool, true, List, [], ◌∷◌, ◌++◌, append-nil, length, nat_lt, None, refl, sym, ap, subst, ◌∙◌, arith}
+use Rattle.std.proofs.Common.{◌≡◌, ℕ, ◌+◌, ◌-◌, ◌^◌, ◌≤◌, Bool, true, List, [], ◌∷◌, ◌++◌, append-nil, length, nat_lt, None, refl, sym, ap, subst, ◌∙◌, arith}
 use Rattle.std.specs.List.{AllByRecursion}
 use Rattle.std.proofs.lemmas.List.{append_assoc}
 use Rattle.vpn_base.specs.declared.names.Cid.{Cid}
@@ -103,13 +103,17 @@ all_later goes_on count since most was is later [] all = tt
 all_later goes_on count since most was is later (e ∷ es) all =
     (record { session = all.0.session; few = all.0.few; past = omega (arith, later, all.0.past) }, all_later goes_on count since most was is later es all.1)
 
+one_before : (n : ℕ) → (n + 1) - 1 ≡ n
+one_before n = grind arith
+
 pub sound_ahead : {S : Type 0} (goes_on : S → Type 0) (count since : S → ℕ) (core : ServerCore S) → IsSound goes_on count since core → core.events + 1 ≤ 2 ^ 48
     → (moment : Moment) → core.moment.0 ≤ moment.0 → (turn : Cid)
     → IsSoundAhead goes_on count since (record core { moment = moment; events = core.events + 1; last_taken = None; turn = turn; mark = 0 })
-sound_ahead goes_on count since core h few moment later turn = record {
-  sessions = all_later goes_on count since (core.events + 1) core.moment.0 moment.0 later (entries_of core.clients) h.sessions;
-  most = h.most;
-  admitted = omega (arith, h.admitted);
-  connections = omega (arith, h.connections);
-  events = few;
-}
+sound_ahead {S = S} goes_on count since core h few moment later turn =
+    let begun = λ (n : ℕ). record core { moment = moment; events = n; last_taken = None; turn = turn; mark = 0 } in
+    subst (λ (n : ℕ). IsSound goes_on count since (begun n)) (sym (one_before core.events)) (record {
+      sessions = all_later goes_on count since (core.events + 1) core.moment.0 moment.0 later (entries_of core.clients) h.sessions;
+      most = h.most;
+      admitted = h.admitted;
+      connections = h.connections;
+    })
