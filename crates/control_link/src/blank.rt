@@ -1,6 +1,6 @@
 //! The memory of a link that is to come.
 
-ghost use Rattle.std.specs.Prelude.{◌≤◌, IfOk};
+ghost use Rattle.std.specs.Prelude.{◌≤◌, ℕ, IfOk, IsOk, OnOk};
 ghost use Rattle.control_link.specs.Links.{BlankStands};
 
 use reliable_recv::RecvSide;
@@ -38,5 +38,15 @@ impl LinkBlank {
         let sending = SendSide::new(alloc, timeout_secs)?;
         let receiving = RecvSide::new(alloc)?;
         Ok(LinkBlank { sending, receiving })
+    }
+    /// Takes the room for the payload of one packet, of at most so many bytes. It is Ok where that room is
+    /// there.
+    #[tactic(auto, unfolding(crate::specs::Links::BlankStands))]
+    pub fn reserve_payload(&mut self, bytes: usize) -> Result<(), NoMemory>
+        ensures same { (timeout : ℕ) → BlankStands self.old timeout → BlankStands self.new timeout }
+        ensures ok { OnOk result (bytes ≤ self.new.receiving.spare) }
+        ensures fits { bytes ≤ self.old.receiving.spare → IsOk result }
+    {
+        self.receiving.reserve(bytes)
     }
 }

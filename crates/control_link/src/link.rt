@@ -155,6 +155,7 @@ impl ControlLink {
         requires first { IsReset first }
         ensures stands { (timeout : ℕ) → BlankStands blank timeout → LinkStands result (link_begun conn kid first timeout) }
         ensures open { result.spent ≡ false }
+        ensures room { result.receiving.spare ≡ blank.receiving.spare }
     {
         let LinkBlank { sending, receiving } = blank;
         ControlLink {

@@ -1,5 +1,6 @@
 -- The memory that a session's channels have taken ahead.
 use Rattle.std.specs.Prelude.{ℕ, ◌-◌, ◌≤◌, vec_len, vec_capacity}
+use Rattle.peer_lines.specs.declared.blank.SessionBlank.{SessionBlank}
 use Rattle.peer_lines.specs.declared.channels.SessionChannels.{SessionChannels}
 
 -- room for the payload of the next control packet, in bytes
@@ -23,3 +24,7 @@ pub record KeepsRoom (before after : SessionChannels) : Type 0 where
   pub payload : payload_room before ≤ payload_room after
   pub text : text_room before ≤ text_room after
   pub plain : plain_room before ≤ plain_room after
+
+-- what a blank has for the payload of the first control packet of the session that is to come, in bytes
+unfoldable pub blank_room : SessionBlank → ℕ
+blank_room b = b.link.receiving.spare

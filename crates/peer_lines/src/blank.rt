@@ -1,6 +1,8 @@
 //! The memory of a key session that is to come.
 
-ghost use Rattle.std.specs.Prelude.{◌≤◌, IfOk};
+ghost use Rattle.std.specs.Prelude.{◌≤◌, IfOk, IsOk, OnOk};
+ghost use Rattle.vpn_base.specs.declared.names.Timers.{Timers};
+ghost use Rattle.peer_lines.specs.Rooms.{blank_room};
 ghost use Rattle.peer_lines.specs.Standing.{BlankFor};
 
 use control_link::LinkBlank;
@@ -56,5 +58,15 @@ impl SessionBlank {
         let window = Window::new(alloc, timers.win, timers.win_secs)?;
         let room = DataRoom::make(alloc)?;
         Ok(SessionBlank { link, window, room })
+    }
+
+    /// Takes the room for the payload of the session's first control packet, of at most so many bytes.
+    #[tactic(auto, unfolding(crate::specs::Standing::BlankFor, crate::specs::Rooms::blank_room))]
+    pub fn reserve_payload(&mut self, payload: usize) -> Result<(), NoMemory>
+        ensures same { (timers : Timers) → BlankFor self.old timers → BlankFor self.new timers }
+        ensures ok { OnOk result (payload ≤ blank_room self.new) }
+        ensures fits { payload ≤ blank_room self.old → IsOk result }
+    {
+        self.link.reserve_payload(payload)
     }
 }

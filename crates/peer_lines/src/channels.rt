@@ -7,7 +7,7 @@ ghost use Rattle.control_link.specs.Links.{IsReset};
 ghost use Rattle.peer_table.specs.Exchange.{unread};
 ghost use Rattle.peer_table.specs.KeySessions.{Session, kid_of, session_begun};
 ghost use Rattle.peer_lines.specs.Standing.{BlankFor, StandsFor, has_data};
-ghost use Rattle.peer_lines.specs.Rooms.{KeepsRoom, longest, payload_room, plain_room, text_room};
+ghost use Rattle.peer_lines.specs.Rooms.{KeepsRoom, blank_room, longest, payload_room, plain_room, text_room};
 
 use crate::blank::SessionBlank;
 use crate::open_link::OpenLink;
@@ -38,7 +38,7 @@ pub struct SessionChannels {
 impl SessionChannels {
     /// The channels of a key session that begins on this engine connection with this key id, by this reset, and
     /// for which memory was taken ahead. It takes none.
-    #[tactic(auto, unfolding(crate::specs::Standing::StandsFor, crate::specs::Standing::BlankFor, crate::specs::Standing::has_data))]
+    #[tactic(auto, unfolding(crate::specs::Standing::StandsFor, crate::specs::Standing::BlankFor, crate::specs::Standing::has_data, crate::specs::Rooms::blank_room, crate::specs::Rooms::payload_room, crate::specs::Rooms::longest))]
     pub fn begin(
         alloc: Global,
         blank: SessionBlank,
@@ -51,6 +51,8 @@ impl SessionChannels {
         ensures stands { (timers : Timers) (number moment : ℕ) → BlankFor blank timers → kid ≡ kid_of number →
             StandsFor result (session_begun timers conn number first moment) }
         ensures there { has_data result ≡ false }
+        ensures room { payload_room result ≡ blank_room blank }
+        ensures none_long { longest result ≡ 0 }
     {
         let SessionBlank { link, window, room } = blank;
         SessionChannels {

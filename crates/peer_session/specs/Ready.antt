@@ -1,12 +1,13 @@
 -- The memory that a client's session has taken ahead for an event.
-use Rattle.std.specs.Prelude.{◌≡◌, ◌≤◌, ◌<◌, ℕ, ◌+◌, ◌*◌, ◌^◌, true, length, max, Some, is_some}
+use Rattle.std.specs.Prelude.{◌≡◌, ◌≤◌, ◌<◌, ℕ, ◌+◌, ◌*◌, ◌^◌, true, length, max, Option, Some, None, is_some}
 use Rattle.vpn_links.specs.declared.events.Kind.{Kind}
 use Rattle.vpn_links.specs.declared.events.Kind.TheVariants.{Datagram, EngineText, EnginePlain, Tick}
 use Rattle.reliable_send.specs.Sending.{piece_count}
 use Rattle.key_sessions.specs.declared.slots.Slots.{Slots}
 use Rattle.key_sessions.specs.Slots.{room, text_at}
+use Rattle.peer_lines.specs.declared.blank.SessionBlank.{SessionBlank}
 use Rattle.peer_lines.specs.declared.channels.SessionChannels.{SessionChannels}
-use Rattle.peer_lines.specs.Rooms.{longest, payload_room, plain_room, text_room}
+use Rattle.peer_lines.specs.Rooms.{blank_room, longest, payload_room, plain_room, text_room}
 use Rattle.peer_session.specs.declared.session.PeerSession.{PeerSession}
 
 -- each text that is there has this
@@ -18,6 +19,11 @@ pub record MayBegin {W : Type 0} (s : PeerSession W) : Type 0 where
   pub blank : is_some s.blank ≡ true
   pub place : 1 ≤ room s.slots
 
+-- the memory of a next one has room for a payload of so many bytes
+abbrev pub BlankTakes : ℕ → Option SessionBlank → Type 0
+BlankTakes payload None = ⊥
+BlankTakes payload (Some b) = payload ≤ blank_room b
+
 -- a text has room for a payload of so many bytes, and so many bytes are enough for what it puts to the engine and sends
 pub record TakesPacket (payload bytes : ℕ) (text : SessionChannels) : Type 0 where
   pub payload_fits : payload ≤ payload_room text
@@ -27,6 +33,7 @@ pub record TakesPacket (payload bytes : ℕ) (text : SessionChannels) : Type 0 w
 -- datagrams sent
 pub record TakesControl {W : Type 0} (s : PeerSession W) (payload effects bytes : ℕ) : Type 0 where
   pub next : MayBegin s
+  pub next_fits : BlankTakes payload s.blank
   pub texts : EachText (TakesPacket payload bytes) s.slots
   pub effects_fit : 19 ≤ effects
   pub bytes_fit : 7200 + 12 * payload ≤ bytes

@@ -81,6 +81,10 @@ GoesOn s = IsGoingOn s
 unfoldable pub count : {W : Type 0} → PeerSession W → ℕ
 count s = newest_number s.slots + 1
 
+-- the moment in milliseconds at which it last closed what may no longer be used
+abbrev pub since : {W : Type 0} → PeerSession W → ℕ
+since s = s.since.0
+
 -- ---- time
 
 -- the one before the last with keys is open while it may be used, which it is at no moment before the one at which it was closed

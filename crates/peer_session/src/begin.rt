@@ -14,7 +14,7 @@ ghost use Rattle.peer_table.specs.Outboxes.{Leaves, Uses};
 ghost use Rattle.peer_table.specs.Peer.{began, first_reset, wrap_time};
 ghost use Rattle.peer_lines.specs.Standing.{StandsFor};
 ghost use Rattle.tls_crypt.specs.Wrapped.{half, keys_of, wrapped, written_half};
-ghost use Rattle.peer_session.specs.Standing.{GoesOn, PeerStands, SessionStands, count};
+ghost use Rattle.peer_session.specs.Standing.{GoesOn, PeerStands, SessionStands, count, since};
 ghost use Rattle.peer_session.specs.internal.Beginnings.{IsFirst, peer_of};
 
 use crate::session::PeerSession;
@@ -78,6 +78,7 @@ fn session_of<W: Wrap + Drop>(
         PeerStands W.wrapped result (peer_of role timers h s) }
     ensures goes_on { GoesOn result }
     ensures count { count result ≡ 1 }
+    ensures since { since result ≡ 0 }
 {
     let first = KeySession::begin(text, 0, now);
     PeerSession {
@@ -92,6 +93,7 @@ fn session_of<W: Wrap + Drop>(
         slots: Slots::new(alloc, first),
         blank: None,
         is_over: false,
+        since: Moment(0),
     }
 }
 
@@ -113,6 +115,7 @@ fn begin_server<W: Wrap + Drop>(
     ensures goes_on { IfOk result (λ s. GoesOn s) }
     ensures uses { Uses out.old out.new 1 0 }
     ensures first { IfOk result (λ s. count s ≡ 1) }
+    ensures since { IfOk result (λ s. since s ≡ 0) }
 {
     let envelope = Envelope::new(
         alloc,
@@ -175,6 +178,7 @@ fn begin_client<W: Wrap + Drop>(
     ensures goes_on { IfOk result (λ s. GoesOn s) }
     ensures uses { Uses out.old out.new 2 1200 }
     ensures first { IfOk result (λ s. count s ≡ 1) }
+    ensures since { IfOk result (λ s. since s ≡ 0) }
 {
     let mut envelope = Envelope::new(
         alloc,
@@ -232,6 +236,7 @@ impl PeerSession<Wrapper> {
         ensures goes_on { IfOk result (λ s. GoesOn s) }
         ensures uses { Uses out.old out.new 2 1200 }
         ensures first { IfOk result (λ s. count s ≡ 1) }
+        ensures since { IfOk result (λ s. since s ≡ 0) }
     {
         let wrap = Wrapper::new(key, role);
         match role {

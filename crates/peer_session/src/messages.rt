@@ -9,7 +9,7 @@ ghost use Rattle.peer_table.specs.Outboxes.{message_seen};
 ghost use Rattle.peer_table.specs.Peer.{Peer, other};
 ghost use Rattle.peer_table.specs.Places.{changed_at};
 ghost use Rattle.key_method2.specs.Reading.{reading};
-ghost use Rattle.peer_session.specs.Standing.{GoesOn, PeerStands, count};
+ghost use Rattle.peer_session.specs.Standing.{GoesOn, PeerStands, count, since};
 ghost use Rattle.peer_session.specs.internal.OpenOnes.{nul_in, unread_among, unread_in, waiting_among, waits_in};
 
 use crate::numbers::OpenNumbers;
@@ -79,6 +79,7 @@ impl<W: Wrap + Drop> PeerSession<W> {
         ensures passed { (p : Peer) → PeerStands W.wrapped self.old p → PeerStands W.wrapped self.new (after_message p) }
         ensures goes_on { GoesOn self.new }
         ensures count { count self.new ≡ count self.old }
+        ensures since { since self.new ≡ since self.old }
     {
         match self.waiting_in() {
             None => {}
@@ -154,6 +155,7 @@ impl<W: Wrap + Drop> PeerSession<W> {
             PeerStands W.wrapped self.new (record p { sessions = changed_at number message_read p.sessions }) }
         ensures goes_on { GoesOn self.new }
         ensures count { count self.new ≡ count self.old }
+        ensures since { since self.new ≡ since self.old }
     {
         channels_stand_on();
         match self.slots.take_text(number) {

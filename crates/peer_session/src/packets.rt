@@ -6,7 +6,7 @@ ghost use Rattle.peer_table.specs.DataPackets.{data_came, data_kid, ids_are_spen
 ghost use Rattle.peer_table.specs.KeySessions.{Keys, Session, keys_of};
 ghost use Rattle.peer_table.specs.Outboxes.{HasRoom, IsUnchanged, LeavesSealed, TellsOpened, Uses};
 ghost use Rattle.peer_table.specs.Peer.{Peer};
-ghost use Rattle.peer_session.specs.Standing.{GoesOn, PeerStands, UsableAreOpen, count};
+ghost use Rattle.peer_session.specs.Standing.{GoesOn, PeerStands, UsableAreOpen, count, since};
 
 use crate::session::PeerSession;
 use packet_ids::Spent;
@@ -28,6 +28,7 @@ impl<W: Wrap + Drop> PeerSession<W> {
         ensures goes_on { GoesOn self.new }
         ensures uses { Uses out.old out.new 1 1524 }
         ensures count { count self.new ≡ count self.old }
+        ensures since { since self.new ≡ since self.old }
     {
         match self.slots.newest_usable() {
             None => Err(Spent),
@@ -54,6 +55,7 @@ impl<W: Wrap + Drop> PeerSession<W> {
         ensures goes_on { GoesOn self.new }
         ensures uses { Uses out.old out.new 1 1524 }
         ensures count { count self.new ≡ count self.old }
+        ensures since { since self.new ≡ since self.old }
     {
         channels_stand_on();
         match self.slots.take_text(number) {
@@ -78,6 +80,7 @@ impl<W: Wrap + Drop> PeerSession<W> {
         ensures front { take 24 datagram.new ≡ take 24 datagram.old }
         ensures length { length datagram.new ≡ length datagram.old }
         ensures count { count self.new ≡ count self.old }
+        ensures since { since self.new ≡ since self.old }
     {
         let kid = kid_in(datagram);
         match self.slots.usable(kid, now, self.timers.tran) {
@@ -104,6 +107,7 @@ impl<W: Wrap + Drop> PeerSession<W> {
         ensures front { take 24 datagram.new ≡ take 24 datagram.old }
         ensures length { length datagram.new ≡ length datagram.old }
         ensures count { count self.new ≡ count self.old }
+        ensures since { since self.new ≡ since self.old }
     {
         channels_stand_on();
         match self.slots.take_text(number) {

@@ -4,7 +4,7 @@ ghost use Rattle.std.specs.Prelude.{◌≡◌, ◌≤◌, ℕ, true, is_some, Is
 ghost use Rattle.key_sessions.specs.Slots.{text_at};
 ghost use Rattle.peer_table.specs.Peer.{Peer};
 ghost use Rattle.peer_session.specs.Ready.{MayBegin};
-ghost use Rattle.peer_session.specs.Standing.{GoesOn, PeerStands, count};
+ghost use Rattle.peer_session.specs.Standing.{GoesOn, PeerStands, count, since};
 
 use crate::session::PeerSession;
 use peer_lines::SessionBlank;
@@ -20,6 +20,7 @@ impl<W: Wrap + Drop> PeerSession<W> {
         ensures made { OnOk result (MayBegin self.new) }
         ensures fits { MayBegin self.old → IsOk result }
         ensures count { count self.new ≡ count self.old }
+        ensures since { since self.new ≡ since self.old }
         ensures texts { (n : ℕ) → text_at self.new.slots n ≡ text_at self.old.slots n }
     {
         match self.make_blank() {
@@ -41,6 +42,7 @@ impl<W: Wrap + Drop> PeerSession<W> {
         ensures made { OnOk result (is_some self.new.blank ≡ true) }
         ensures fits { is_some self.old.blank ≡ true → IsOk result }
         ensures count { count self.new ≡ count self.old }
+        ensures since { since self.new ≡ since self.old }
         ensures slots { self.new.slots ≡ self.old.slots }
     {
         if self.blank.is_some() {

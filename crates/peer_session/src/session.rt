@@ -5,7 +5,7 @@ use control_link::Envelope;
 use key_sessions::Slots;
 use peer_lines::{SessionBlank, SessionChannels};
 use std::alloc::Global;
-use vpn_base::{Role, Sid, Timers};
+use vpn_base::{Moment, Role, Sid, Timers};
 
 /// The session of one client with all its key sessions, whatever its control packets are wrapped by.
 #[derive(Drop)]
@@ -23,4 +23,6 @@ pub struct PeerSession<W: Drop> {
     pub(crate) blank: Option<SessionBlank>,
     // a control link has ended, so the session is over
     pub(crate) is_over: bool,
+    // the moment at which it last closed what may no longer be used
+    pub(crate) since: Moment,
 }
