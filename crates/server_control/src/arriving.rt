@@ -9,8 +9,8 @@ ghost use Rattle.tls_crypt.specs.Unwrapping.{unwrapping};
 ghost use Rattle.server_table.specs.ControlDatagrams as server;
 ghost use Rattle.server_table.specs.Courses.{Course};
 ghost use Rattle.server_table.specs.Lookups.{by_session};
-ghost use Rattle.server_state.specs.Core.{CourseStands, IsSound};
-ghost use Rattle.server_control.specs.Packets.{HasBytes, IsSoundAhead, opened_packet, packet_of};
+ghost use Rattle.server_state.specs.Core.{CourseStands, IsSound, IsSoundAhead};
+ghost use Rattle.server_control.specs.Packets.{HasBytes, opened_packet, packet_of};
 
 use crate::admitting::admit;
 use crate::taking::to_client;
@@ -47,9 +47,6 @@ fn of_nobody<S: ClientSession + Drop>(
 ) -> Result<(), NoMemory>
     requires acks { view.now.acks.count ≤ 8 }
     requires wire { HasBytes kind.now (length view.now.payload.now) }
-    requires window { 1 ≤ core.old.settings.timers.win }
-    requires some_timeout { 1 ≤ core.old.settings.timers.timeout }
-    requires short_timeout { core.old.settings.timers.timeout ≤ 60 }
     requires counted { 1 ≤ core.old.events }
     requires few { core.old.events ≤ 2 ^ 48 }
     requires sound { IsSoundAhead S.goes_on S.count S.since core.old }
@@ -94,9 +91,6 @@ fn find_client<S: ClientSession + Drop>(
 ) -> Result<(), NoMemory>
     requires acks { view.now.acks.count ≤ 8 }
     requires wire { HasBytes kind.now (length view.now.payload.now) }
-    requires window { 1 ≤ core.old.settings.timers.win }
-    requires some_timeout { 1 ≤ core.old.settings.timers.timeout }
-    requires short_timeout { core.old.settings.timers.timeout ≤ 60 }
     requires counted { 1 ≤ core.old.events }
     requires few { core.old.events ≤ 2 ^ 48 }
     requires sound { IsSoundAhead S.goes_on S.count S.since core.old }
@@ -132,9 +126,6 @@ fn read_text<S: ClientSession + Drop>(
     out: &mut Outbox,
 ) -> Result<(), NoMemory>
     requires wire { HasBytes kind.now (length opened.now.plain.now) }
-    requires window { 1 ≤ core.old.settings.timers.win }
-    requires some_timeout { 1 ≤ core.old.settings.timers.timeout }
-    requires short_timeout { core.old.settings.timers.timeout ≤ 60 }
     requires counted { 1 ≤ core.old.events }
     requires few { core.old.events ≤ 2 ^ 48 }
     requires sound { IsSoundAhead S.goes_on S.count S.since core.old }
@@ -187,9 +178,6 @@ fn unwrap_datagram<S: ClientSession + Drop, W: Wrap>(
     out: &mut Outbox,
 ) -> Result<(), NoMemory>
     requires wire { kind.now ≡ Datagram from datagram.old }
-    requires window { 1 ≤ core.old.settings.timers.win }
-    requires some_timeout { 1 ≤ core.old.settings.timers.timeout }
-    requires short_timeout { core.old.settings.timers.timeout ≤ 60 }
     requires counted { 1 ≤ core.old.events }
     requires few { core.old.events ≤ 2 ^ 48 }
     requires sound { IsSoundAhead S.goes_on S.count S.since core.old }
@@ -237,9 +225,6 @@ pub fn control_arrived<S: ClientSession + Drop>(
     out: &mut Outbox,
 ) -> Result<(), NoMemory>
     requires wire { kind.now ≡ Datagram from datagram.old }
-    requires window { 1 ≤ core.old.settings.timers.win }
-    requires some_timeout { 1 ≤ core.old.settings.timers.timeout }
-    requires short_timeout { core.old.settings.timers.timeout ≤ 60 }
     requires counted { 1 ≤ core.old.events }
     requires few { core.old.events ≤ 2 ^ 48 }
     requires sound { IsSoundAhead S.goes_on S.count S.since core.old }

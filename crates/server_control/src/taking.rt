@@ -12,8 +12,8 @@ ghost use Rattle.server_table.specs.Courses.{Course};
 ghost use Rattle.server_table.specs.Lookups.{client_here};
 ghost use Rattle.server_table.specs.Table.{Client};
 ghost use Rattle.server_state.specs.Calls.{opens_in};
-ghost use Rattle.server_state.specs.Core.{CourseStands, IsSound};
-ghost use Rattle.server_control.specs.Packets.{HasBytes, IsSoundAhead, packet_of};
+ghost use Rattle.server_state.specs.Core.{CourseStands, IsSound, IsSoundAhead};
+ghost use Rattle.server_control.specs.Packets.{HasBytes, packet_of};
 ghost use Rattle.server_control.specs.internal.Taking.{HasTaken, IsSoundAfter, heard_after, last_after};
 
 use crate::telling::tell;
