@@ -40,7 +40,7 @@ pub trait ClientSession {
     /// It did not end: after a turn that is over, only calls that look follow.
     ghost goes_on: { Self → Type 0 };
 
-    /// The latest moment that it was told, in milliseconds.
+    /// The latest moment at which time passed for it, in milliseconds; it is told none before.
     ghost since: { Self → ℕ };
 
     /// It has the memory for this event beside an outbox with room for so many effects and bytes.
@@ -114,7 +114,8 @@ pub trait ClientSession {
         ensures uses { (from : Addr) (bytes : List ℕ) (effects room : ℕ) → is_ready self.old (Datagram from bytes) established effects room →
             length view.now.payload.now ≤ length bytes → Uses out.old out.new effects room }
         ensures count { count self.new ≤ count self.old + 1 }
-        ensures since { since self.new ≤ now.0 };
+        ensures since { since self.new ≤ now.0 }
+        ensures since_stays { since self.new ≡ since self.old };
 
     /// The engine has answered on a connection. An answer for no open one does nothing, and neither does one
     /// that says that the connection is down: the owner ends the client then.
@@ -218,7 +219,8 @@ pub trait ClientSession {
         ensures front { take 24 datagram.new ≡ take 24 datagram.old }
         ensures length { length datagram.new ≡ length datagram.old }
         ensures count { count self.new ≡ count self.old }
-        ensures since { since self.new ≤ now.0 };
+        ensures since { since self.new ≤ now.0 }
+        ensures since_stays { since self.new ≡ since self.old };
 
     /// The client's common name; None exactly before it is known.
     fn name(&self) -> Option<&[u8]>
