@@ -78,6 +78,7 @@ reserved_sound goes_on count since core ct same h = record {
   admitted = subst (λ k. k ≤ core.events - 1) (sym same.admitted_is) h.admitted;
   connections = h.connections;
   timers = h.timers;
+  no_counts = h.no_counts;
 }
 
 -- ---- what holds of the core
@@ -112,6 +113,7 @@ module _ {S : Type 0} (goes_on : S → Type 0) (count since : S → ℕ) (core :
     admitted = admitted_few;
     connections = opened_few;
     timers = h.timers;
+    no_counts = h.no_counts;
   }
 
   sound_but : table.place_of turn.0 (entries_of core.clients ++ e ∷ []) ≡ Some (length (entries_of core.clients)) → IsSoundBut goes_on count since turn.0 after
@@ -124,6 +126,7 @@ module _ {S : Type 0} (goes_on : S → Type 0) (count since : S → ℕ) (core :
     admitted = admitted_few;
     connections = opened_few;
     timers = h.timers;
+    no_counts = h.no_counts;
   }
 
   -- the client has taken its first packet

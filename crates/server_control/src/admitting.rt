@@ -10,7 +10,7 @@ ghost use Rattle.vpn_base.specs.declared.names.Role.TheVariants.{Server};
 ghost use Rattle.tls_crypt.specs.Wrapped.{half, keys_of, wrapped, written_half};
 ghost use Rattle.server_table.specs.ControlDatagrams as server;
 ghost use Rattle.server_table.specs.Courses.{Course};
-ghost use Rattle.server_state.specs.Core.{CourseStands, IsSound, IsSoundAhead};
+ghost use Rattle.server_state.specs.Core.{CourseStands, IsSound, IsSoundAhead, StaysTold};
 ghost use Rattle.server_control.specs.Packets.{HasBytes, packet_of};
 ghost use Rattle.server_control.specs.internal.Admitting.{HasBegun, state_begun};
 ghost use Rattle.server_control.specs.internal.Taking.{HasTaken, IsSoundAfter};
@@ -122,6 +122,7 @@ fn admit_first<S: ClientSession + Drop>(
     ensures kept { OnErr result ((before : List Action) (c : Course) → CourseStands S.stands before core.old out.old c →
         CourseStands S.stands before core.new out.new c) }
     ensures sound { MatchResult result (λ answer. IsSoundAfter S.goes_on S.count S.since core.new answer) (λ _. IsSoundAhead S.goes_on S.count S.since core.new) }
+    ensures still { OnErr result (StaysTold S.since core.old core.new) }
     ensures turn { OnOk result (core.new.turn.0 ≡ admitted_by core.old.clients) }
     ensures room { OnOk result (HasRoom out.new 5 39) }
 {
@@ -177,6 +178,7 @@ pub fn admit<S: ClientSession + Drop>(
     ensures kept { OnErr result ((before : List Action) (c : Course) → CourseStands S.stands before core.old out.old c →
         CourseStands S.stands before core.new out.new c) }
     ensures sound { MatchResult result (λ _. IsSound S.goes_on S.count S.since core.new) (λ _. IsSoundAhead S.goes_on S.count S.since core.new) }
+    ensures still { OnErr result (StaysTold S.since core.old core.new) }
 {
     match admit_first(core, alloc, from, draw, kind, opened, view, out) {
         Err(NoMemory) => Err(NoMemory),

@@ -9,7 +9,7 @@ ghost use Rattle.tls_crypt.specs.Unwrapping.{unwrapping};
 ghost use Rattle.server_table.specs.ControlDatagrams as server;
 ghost use Rattle.server_table.specs.Courses.{Course};
 ghost use Rattle.server_table.specs.Lookups.{by_session};
-ghost use Rattle.server_state.specs.Core.{CourseStands, IsSound, IsSoundAhead};
+ghost use Rattle.server_state.specs.Core.{CourseStands, IsSound, IsSoundAhead, StaysTold};
 ghost use Rattle.server_control.specs.Packets.{HasBytes, opened_packet, packet_of};
 
 use crate::admitting::admit;
@@ -59,6 +59,7 @@ fn of_nobody<S: ClientSession + Drop>(
     ensures kept { OnErr result ((before : List Action) (c : Course) → CourseStands S.stands before core.old out.old c →
         CourseStands S.stands before core.new out.new c) }
     ensures sound { MatchResult result (λ _. IsSound S.goes_on S.count S.since core.new) (λ _. IsSoundAhead S.goes_on S.count S.since core.new) }
+    ensures still { OnErr result (StaysTold S.since core.old core.new) }
 {
     if !begins_client(op, opened, view) {
         core.report(Note::UnknownSession { sid: opened.sid }, out);
@@ -103,6 +104,7 @@ fn find_client<S: ClientSession + Drop>(
     ensures kept { OnErr result ((before : List Action) (c : Course) → CourseStands S.stands before core.old out.old c →
         CourseStands S.stands before core.new out.new c) }
     ensures sound { MatchResult result (λ _. IsSound S.goes_on S.count S.since core.new) (λ _. IsSoundAhead S.goes_on S.count S.since core.new) }
+    ensures still { OnErr result (StaysTold S.since core.old core.new) }
 {
     match core.by_session(from, opened.sid) {
         None => of_nobody(core, alloc, from, draw, op, kind, opened, view, out),
@@ -138,6 +140,7 @@ fn read_text<S: ClientSession + Drop>(
     ensures kept { OnErr result ((before : List Action) (c : Course) → CourseStands S.stands before core.old out.old c →
         CourseStands S.stands before core.new out.new c) }
     ensures sound { MatchResult result (λ _. IsSound S.goes_on S.count S.since core.new) (λ _. IsSoundAhead S.goes_on S.count S.since core.new) }
+    ensures still { OnErr result (StaysTold S.since core.old core.new) }
 {
     match read_control(opened.plain, op) {
         Err(kind) => {
@@ -190,6 +193,7 @@ fn unwrap_datagram<S: ClientSession + Drop, W: Wrap>(
     ensures kept { OnErr result ((before : List Action) (c : Course) → CourseStands S.stands before core.old out.old c →
         CourseStands S.stands before core.new out.new c) }
     ensures sound { MatchResult result (λ _. IsSound S.goes_on S.count S.since core.new) (λ _. IsSoundAhead S.goes_on S.count S.since core.new) }
+    ensures still { OnErr result (StaysTold S.since core.old core.new) }
 {
     let first = first_of(datagram);
     match wrap.unwrap_in_place(datagram) {
@@ -237,6 +241,7 @@ pub fn control_arrived<S: ClientSession + Drop>(
     ensures kept { OnErr result ((before : List Action) (c : Course) → CourseStands S.stands before core.old out.old c →
         CourseStands S.stands before core.new out.new c) }
     ensures sound { MatchResult result (λ _. IsSound S.goes_on S.count S.since core.new) (λ _. IsSoundAhead S.goes_on S.count S.since core.new) }
+    ensures still { OnErr result (StaysTold S.since core.old core.new) }
 {
     let wrapper = Wrapper::new(&core.key, Role::Server);
     unwrap_datagram(core, alloc, from, draw, op, kind, &wrapper, datagram, out)

@@ -12,7 +12,7 @@ ghost use Rattle.server_table.specs.Courses.{Course};
 ghost use Rattle.server_table.specs.Lookups.{client_here};
 ghost use Rattle.server_table.specs.Table.{Client};
 ghost use Rattle.server_state.specs.Calls.{opens_in};
-ghost use Rattle.server_state.specs.Core.{CourseStands, IsSound, IsSoundAhead};
+ghost use Rattle.server_state.specs.Core.{CourseStands, IsSound, IsSoundAhead, StaysTold};
 ghost use Rattle.server_control.specs.Packets.{HasBytes, packet_of};
 ghost use Rattle.server_control.specs.internal.Taking.{HasTaken, IsSoundAfter, heard_after, last_after};
 
@@ -83,6 +83,7 @@ pub(crate) fn take<S: ClientSession>(
     ensures count { S.count client.new.session ≤ S.count client.old.session + 1 }
     ensures since { S.since client.new.session ≤ now.0 }
     ensures same_count { OnErr result (S.count client.new.session ≡ S.count client.old.session) }
+    ensures same_since { OnErr result (S.since client.new.session ≡ S.since client.old.session) }
     ensures room { OnOk result (HasRoom out.new 5 39) }
 {
     let established = client.established.is_some();
@@ -162,6 +163,7 @@ fn take_at<S: ClientSession>(
     ensures kept { OnErr result ((before : List Action) (c : Course) → CourseStands S.stands before core.old out.old c →
         CourseStands S.stands before core.new out.new c) }
     ensures sound { MatchResult result (λ answer. IsSoundAfter S.goes_on S.count S.since core.new answer) (λ _. IsSoundAhead S.goes_on S.count S.since core.new) }
+    ensures still { OnErr result (StaysTold S.since core.old core.new) }
     ensures turn { core.new.turn ≡ core.old.turn }
     ensures room { OnOk result (HasRoom out.new 5 39) }
 {
@@ -213,6 +215,7 @@ pub fn to_client<S: ClientSession + Drop>(
     ensures kept { OnErr result ((before : List Action) (c : Course) → CourseStands S.stands before core.old out.old c →
         CourseStands S.stands before core.new out.new c) }
     ensures sound { MatchResult result (λ _. IsSound S.goes_on S.count S.since core.new) (λ _. IsSoundAhead S.goes_on S.count S.since core.new) }
+    ensures still { OnErr result (StaysTold S.since core.old core.new) }
 {
     server_state::places_tell_of_clients::<S>();
     let Some(i) = core.clients.place(core.turn) else {

@@ -116,4 +116,5 @@ sound_ahead {S = S} goes_on count since core h few moment later turn =
       admitted = h.admitted;
       connections = h.connections;
       timers = h.timers;
+      no_counts = h.no_counts;
     })

@@ -201,6 +201,7 @@ module _ {S : Type 0} (means : S → Peer → Type 0) (core : ServerCore S) (m i
     admitted = subst (λ k. k ≤ core.events) (sym admitted) h.admitted;
     connections = h.connections;
     timers = h.timers;
+    no_counts = h.no_counts;
   }
 
   -- what two changes one behind the other come to
@@ -238,4 +239,5 @@ sound_but goes_on count since n core h = record {
   admitted = h.admitted;
   connections = h.connections;
   timers = h.timers;
+  no_counts = h.no_counts;
 }

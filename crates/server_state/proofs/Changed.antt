@@ -188,4 +188,5 @@ sound_changed goes_on count since core ct i v w sound there goes same later is =
   admitted = subst (λ k. k ≤ core.events) (sym is.admitted_is) sound.admitted;
   connections = sound.connections;
   timers = sound.timers;
+  no_counts = sound.no_counts;
 }

@@ -125,6 +125,15 @@ pub record IsSound {S : Type 0} (goes_on : S → Type 0) (count since : S → �
   pub admitted : admitted_by core.clients ≤ core.events
   pub connections : core.connections ≤ 2 ^ 13 * core.events
   pub timers : AreTimersFor core.settings.timers
+  pub no_counts : core.count_interval ≡ 0
+
+-- no session was told a moment behind this one
+abbrev pub NoneIsLater : {S : Type 0} → (S → ℕ) → ℕ → ServerCore S → Type 0
+NoneIsLater since moment core = AllByRecursion (λ (e : Entry (ClientState _)). since e.value.session ≤ moment) (entries_of core.clients)
+
+-- no session was told a later moment meanwhile
+abbrev pub StaysTold : {S : Type 0} → (S → ℕ) → ServerCore S → ServerCore S → Type 0
+StaysTold since before after = (moment : ℕ) → NoneIsLater since moment before → NoneIsLater since moment after
 
 -- what holds of every core, before anything is done for an event that counts already
 abbrev pub IsSoundAhead : {S : Type 0} → (S → Type 0) → (S → ℕ) → (S → ℕ) → ServerCore S → Type 0

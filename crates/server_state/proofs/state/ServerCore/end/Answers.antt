@@ -16,6 +16,7 @@ returns-in_default-clause-sound g c h = record {
   admitted = h.admitted;
   connections = h.connections;
   timers = h.timers;
+  no_counts = h.no_counts;
 }
 
 pub unreachable-requires : goal.unreachable-requires
@@ -41,4 +42,5 @@ returns-clause-sound g c h = record {
   admitted = subst (λ n. n ≤ c.args.self.now.events) (sym c.remove.ensures.removed.admitted_is) h.admitted;
   connections = h.connections;
   timers = h.timers;
+  no_counts = h.no_counts;
 }
