@@ -123,6 +123,7 @@ fn admit_first<S: ClientSession + Drop>(
         CourseStands S.stands before core.new out.new c) }
     ensures sound { MatchResult result (λ answer. IsSoundAfter S.goes_on S.count S.since core.new answer) (λ _. IsSoundAhead S.goes_on S.count S.since core.new) }
     ensures still { OnErr result (StaysTold S.since core.old core.new) }
+    ensures outbox { OnErr result (Holds out.new out.old.effects out.old.staged) }
     ensures turn { OnOk result (core.new.turn.0 ≡ admitted_by core.old.clients) }
     ensures room { OnOk result (HasRoom out.new 5 39) }
 {
@@ -179,6 +180,7 @@ pub fn admit<S: ClientSession + Drop>(
         CourseStands S.stands before core.new out.new c) }
     ensures sound { MatchResult result (λ _. IsSound S.goes_on S.count S.since core.new) (λ _. IsSoundAhead S.goes_on S.count S.since core.new) }
     ensures still { OnErr result (StaysTold S.since core.old core.new) }
+    ensures outbox { OnErr result (Holds out.new out.old.effects out.old.staged) }
 {
     match admit_first(core, alloc, from, draw, kind, opened, view, out) {
         Err(NoMemory) => Err(NoMemory),

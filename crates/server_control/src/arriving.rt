@@ -1,7 +1,7 @@
 //! Control packets that come from the wire.
 
 ghost use Rattle.std.specs.Prelude.{◌≡◌, ◌≤◌, ◌+◌, ◌-◌, ◌^◌, ◌==◌, ◌%◌, ◌∷◌, [], List, Bool, ℕ, drop, length, slice_get, true, false, IsTrue, IfOk, OnOk, OnErr, MatchResult};
-ghost use Rattle.vpn_links.specs.Actions.{Action};
+ghost use Rattle.vpn_links.specs.Actions.{Action, Holds};
 ghost use Rattle.vpn_links.specs.declared.events.Kind.TheVariants.{Datagram};
 ghost use Rattle.opcode_codec.specs.ControlText.{control_of};
 ghost use Rattle.peer_table.specs.Outboxes.{HasRoom};
@@ -60,6 +60,7 @@ fn of_nobody<S: ClientSession + Drop>(
         CourseStands S.stands before core.new out.new c) }
     ensures sound { MatchResult result (λ _. IsSound S.goes_on S.count S.since core.new) (λ _. IsSoundAhead S.goes_on S.count S.since core.new) }
     ensures still { OnErr result (StaysTold S.since core.old core.new) }
+    ensures outbox { OnErr result (Holds out.new out.old.effects out.old.staged) }
 {
     if !begins_client(op, opened, view) {
         core.report(Note::UnknownSession { sid: opened.sid }, out);
@@ -105,6 +106,7 @@ fn find_client<S: ClientSession + Drop>(
         CourseStands S.stands before core.new out.new c) }
     ensures sound { MatchResult result (λ _. IsSound S.goes_on S.count S.since core.new) (λ _. IsSoundAhead S.goes_on S.count S.since core.new) }
     ensures still { OnErr result (StaysTold S.since core.old core.new) }
+    ensures outbox { OnErr result (Holds out.new out.old.effects out.old.staged) }
 {
     match core.by_session(from, opened.sid) {
         None => of_nobody(core, alloc, from, draw, op, kind, opened, view, out),
@@ -141,6 +143,7 @@ fn read_text<S: ClientSession + Drop>(
         CourseStands S.stands before core.new out.new c) }
     ensures sound { MatchResult result (λ _. IsSound S.goes_on S.count S.since core.new) (λ _. IsSoundAhead S.goes_on S.count S.since core.new) }
     ensures still { OnErr result (StaysTold S.since core.old core.new) }
+    ensures outbox { OnErr result (Holds out.new out.old.effects out.old.staged) }
 {
     match read_control(opened.plain, op) {
         Err(kind) => {
@@ -194,6 +197,7 @@ fn unwrap_datagram<S: ClientSession + Drop, W: Wrap>(
         CourseStands S.stands before core.new out.new c) }
     ensures sound { MatchResult result (λ _. IsSound S.goes_on S.count S.since core.new) (λ _. IsSoundAhead S.goes_on S.count S.since core.new) }
     ensures still { OnErr result (StaysTold S.since core.old core.new) }
+    ensures outbox { OnErr result (Holds out.new out.old.effects out.old.staged) }
 {
     let first = first_of(datagram);
     match wrap.unwrap_in_place(datagram) {
@@ -242,6 +246,7 @@ pub fn control_arrived<S: ClientSession + Drop>(
         CourseStands S.stands before core.new out.new c) }
     ensures sound { MatchResult result (λ _. IsSound S.goes_on S.count S.since core.new) (λ _. IsSoundAhead S.goes_on S.count S.since core.new) }
     ensures still { OnErr result (StaysTold S.since core.old core.new) }
+    ensures outbox { OnErr result (Holds out.new out.old.effects out.old.staged) }
 {
     let wrapper = Wrapper::new(&core.key, Role::Server);
     unwrap_datagram(core, alloc, from, draw, op, kind, &wrapper, datagram, out)

@@ -1,7 +1,7 @@
 //! How clients take control packets.
 
 ghost use Rattle.std.specs.Prelude.{◌≡◌, ◌<◌, ◌≤◌, ◌+◌, ◌-◌, ◌^◌, ◌∷◌, List, drop, length, min, slice_get, option_map, is_some, Some, IfOk, OnOk, OnErr, MatchResult};
-ghost use Rattle.vpn_links.specs.Actions.{Action};
+ghost use Rattle.vpn_links.specs.Actions.{Action, Holds};
 ghost use Rattle.client_table.specs.Changes.{place_of};
 ghost use Rattle.client_table.specs.Tables.{entries_of};
 ghost use Rattle.peer_table.specs.ControlPackets.{control_came};
@@ -83,6 +83,7 @@ pub(crate) fn take<S: ClientSession>(
     ensures count { S.count client.new.session ≤ S.count client.old.session + 1 }
     ensures since { S.since client.new.session ≤ now.0 }
     ensures same_count { OnErr result (S.count client.new.session ≡ S.count client.old.session) }
+    ensures outbox { OnErr result (Holds out.new out.old.effects out.old.staged) }
     ensures same_since { OnErr result (S.since client.new.session ≡ S.since client.old.session) }
     ensures room { OnOk result (HasRoom out.new 5 39) }
 {
@@ -95,7 +96,7 @@ pub(crate) fn take<S: ClientSession>(
         .session
         .on_control(opened, view, to, next_conn, established, now, out)
     {
-        Err(NoMemory) => Err(NoMemory),
+        Err(_) => unreachable!(),
         Ok(Ok(turn)) => {
             client.heard = now;
             Ok(Ok(turn))
@@ -164,6 +165,7 @@ fn take_at<S: ClientSession>(
         CourseStands S.stands before core.new out.new c) }
     ensures sound { MatchResult result (λ answer. IsSoundAfter S.goes_on S.count S.since core.new answer) (λ _. IsSoundAhead S.goes_on S.count S.since core.new) }
     ensures still { OnErr result (StaysTold S.since core.old core.new) }
+    ensures outbox { OnErr result (Holds out.new out.old.effects out.old.staged) }
     ensures turn { core.new.turn ≡ core.old.turn }
     ensures room { OnOk result (HasRoom out.new 5 39) }
 {
@@ -216,6 +218,7 @@ pub fn to_client<S: ClientSession + Drop>(
         CourseStands S.stands before core.new out.new c) }
     ensures sound { MatchResult result (λ _. IsSound S.goes_on S.count S.since core.new) (λ _. IsSoundAhead S.goes_on S.count S.since core.new) }
     ensures still { OnErr result (StaysTold S.since core.old core.new) }
+    ensures outbox { OnErr result (Holds out.new out.old.effects out.old.staged) }
 {
     server_state::places_tell_of_clients::<S>();
     let Some(i) = core.clients.place(core.turn) else {
