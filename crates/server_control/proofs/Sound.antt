@@ -152,15 +152,3 @@ module _ {S : Type 0} (goes_on : S → Type 0) (count since : S → ℕ) (core :
     sound_after (Ok (Over cause)) k last goes more later one place =
         let s = sound_but more later k one core.turn.0 place in record { sessions = s.sessions; most = s.most; admitted = s.admitted; connections = s.connections; timers = s.timers; no_counts = s.no_counts }
     sound_after (Err refused) k last goes more later one place = into_last (sound_on more later k one goes) last
-
--- what holds before an event is counted, holds when it is
-pub sound_counted : {S : Type 0} (goes_on : S → Type 0) (count since : S → ℕ) (core : ServerCore S) → IsSoundAhead goes_on count since core → IsSound goes_on count since core
-sound_counted goes_on count since core h = record {
-  sessions = all_as (GoesOn goes_on count since (core.events - 1 + 1) core.moment.0) (GoesOn goes_on count since (core.events + 1) core.moment.0)
-      (λ e g. record { session = g.session; few = omega (arith, g.few); past = g.past }) (entries_of core.clients) h.sessions;
-  most = h.most;
-  admitted = omega (arith, h.admitted);
-  connections = omega (arith, h.connections);
-  timers = h.timers;
-  no_counts = h.no_counts;
-}

@@ -7,8 +7,9 @@ ghost use Rattle.opcode_codec.specs.ControlText.{control_of};
 ghost use Rattle.peer_table.specs.Outboxes.{HasRoom};
 ghost use Rattle.tls_crypt.specs.Unwrapping.{unwrapping};
 ghost use Rattle.server_table.specs.ControlDatagrams as server;
-ghost use Rattle.server_table.specs.Courses.{Course};
+ghost use Rattle.server_table.specs.Courses.{Course, outs};
 ghost use Rattle.server_table.specs.Lookups.{by_session};
+ghost use Rattle.server_table.specs.Runs.{is_refusal};
 ghost use Rattle.server_state.specs.Core.{CourseStands, IsSound, IsSoundAhead, StaysTold};
 ghost use Rattle.server_control.specs.Packets.{HasBytes, opened_packet, packet_of};
 
@@ -16,7 +17,7 @@ use crate::admitting::admit;
 use crate::taking::to_client;
 use opcode_codec::{ControlView, Opcode, read_control};
 use peer_table::ClientSession;
-use server_state::ServerCore;
+use server_state::{ServerCore, a_core_ahead_is_sound};
 use std::alloc::Global;
 use tls_crypt::{Opened, Wrap, Wrapper};
 use vpn_base::{Addr, Draw, NoMemory, Role};
@@ -61,7 +62,10 @@ fn of_nobody<S: ClientSession + Drop>(
     ensures sound { MatchResult result (λ _. IsSound S.goes_on S.count S.since core.new) (λ _. IsSoundAhead S.goes_on S.count S.since core.new) }
     ensures still { OnErr result (StaysTold S.since core.old core.new) }
     ensures outbox { OnErr result (Holds out.new out.old.effects out.old.staged) }
+    ensures lacking { OnErr result ((before : List Action) (c : Course) (bytes : List ℕ) (lacks : Bool) → CourseStands S.stands before core.old out.old c → c.effects ≡ [] →
+        is_refusal (outs (server.of_nobody (record { from = from; bytes = bytes; lacks = lacks }) draw.now (packet_of opened.now view.now) c (server.begins_client op (packet_of opened.now view.now)))) ≡ false) }
 {
+    a_core_ahead_is_sound::<S>();
     if !begins_client(op, opened, view) {
         core.report(Note::UnknownSession { sid: opened.sid }, out);
         return Ok(());
@@ -107,6 +111,8 @@ fn find_client<S: ClientSession + Drop>(
     ensures sound { MatchResult result (λ _. IsSound S.goes_on S.count S.since core.new) (λ _. IsSoundAhead S.goes_on S.count S.since core.new) }
     ensures still { OnErr result (StaysTold S.since core.old core.new) }
     ensures outbox { OnErr result (Holds out.new out.old.effects out.old.staged) }
+    ensures lacking { OnErr result ((before : List Action) (c : Course) (bytes : List ℕ) (lacks : Bool) → CourseStands S.stands before core.old out.old c → c.effects ≡ [] →
+        is_refusal (outs (server.control_at (record { from = from; bytes = bytes; lacks = lacks }) draw.now op (packet_of opened.now view.now) c (by_session c.table from opened.now.sid))) ≡ false) }
 {
     match core.by_session(from, opened.sid) {
         None => of_nobody(core, alloc, from, draw, op, kind, opened, view, out),
@@ -144,7 +150,10 @@ fn read_text<S: ClientSession + Drop>(
     ensures sound { MatchResult result (λ _. IsSound S.goes_on S.count S.since core.new) (λ _. IsSoundAhead S.goes_on S.count S.since core.new) }
     ensures still { OnErr result (StaysTold S.since core.old core.new) }
     ensures outbox { OnErr result (Holds out.new out.old.effects out.old.staged) }
+    ensures lacking { OnErr result ((before : List Action) (c : Course) (bytes : List ℕ) (lacks : Bool) → first ≡ slice_get bytes 0 → CourseStands S.stands before core.old out.old c → c.effects ≡ [] →
+        is_refusal (outs (server.control_read (record { from = from; bytes = bytes; lacks = lacks }) draw.now op (opened_packet opened.now) c (control_of op opened.now.plain.now))) ≡ false) }
 {
+    a_core_ahead_is_sound::<S>();
     match read_control(opened.plain, op) {
         Err(kind) => {
             core.report(Note::Malformed { kind, first }, out);
@@ -198,7 +207,10 @@ fn unwrap_datagram<S: ClientSession + Drop, W: Wrap>(
     ensures sound { MatchResult result (λ _. IsSound S.goes_on S.count S.since core.new) (λ _. IsSoundAhead S.goes_on S.count S.since core.new) }
     ensures still { OnErr result (StaysTold S.since core.old core.new) }
     ensures outbox { OnErr result (Holds out.new out.old.effects out.old.staged) }
+    ensures lacking { OnErr result ((before : List Action) (c : Course) (lacks : Bool) → CourseStands S.stands before core.old out.old c → c.effects ≡ [] →
+        is_refusal (outs (server.control_unwrapped (record { from = from; bytes = datagram.old; lacks = lacks }) draw.now op c (unwrapping (W.unwrapped wrap.now) datagram.old))) ≡ false) }
 {
+    a_core_ahead_is_sound::<S>();
     let first = first_of(datagram);
     match wrap.unwrap_in_place(datagram) {
         Err(_) => {
@@ -247,6 +259,8 @@ pub fn control_arrived<S: ClientSession + Drop>(
     ensures sound { MatchResult result (λ _. IsSound S.goes_on S.count S.since core.new) (λ _. IsSoundAhead S.goes_on S.count S.since core.new) }
     ensures still { OnErr result (StaysTold S.since core.old core.new) }
     ensures outbox { OnErr result (Holds out.new out.old.effects out.old.staged) }
+    ensures lacking { OnErr result ((before : List Action) (c : Course) (lacks : Bool) → CourseStands S.stands before core.old out.old c → c.effects ≡ [] →
+        is_refusal (outs (server.control_arrived (record { from = from; bytes = datagram.old; lacks = lacks }) draw.now op c)) ≡ false) }
 {
     let wrapper = Wrapper::new(&core.key, Role::Server);
     unwrap_datagram(core, alloc, from, draw, op, kind, &wrapper, datagram, out)

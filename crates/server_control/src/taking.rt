@@ -19,7 +19,7 @@ ghost use Rattle.server_control.specs.internal.Taking.{HasTaken, IsSoundAfter, h
 use crate::telling::tell;
 use opcode_codec::ControlView;
 use peer_table::{ClientSession, Refused, Turn};
-use server_state::{ClientState, ServerCore, count_opened};
+use server_state::{ClientState, ServerCore, a_core_ahead_is_sound, count_opened};
 use tls_crypt::Opened;
 use vpn_base::{Addr, Cid, Conn, Moment, NoMemory};
 use vpn_links::{Kind, Outbox};
@@ -220,6 +220,7 @@ pub fn to_client<S: ClientSession + Drop>(
     ensures still { OnErr result (StaysTold S.since core.old core.new) }
     ensures outbox { OnErr result (Holds out.new out.old.effects out.old.staged) }
 {
+    a_core_ahead_is_sound::<S>();
     server_state::places_tell_of_clients::<S>();
     let Some(i) = core.clients.place(core.turn) else {
         return Ok(());
