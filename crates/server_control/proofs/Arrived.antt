@@ -1,6 +1,6 @@
 -- What control packets from the wire come to.
 use Rattle.std.proofs.Common.{◌≡◌, ℕ, zero, suc, ◌-◌, ◌≤◌, ◌==◌, Bool, true, false, cond, List, [], ◌∷◌, ◌++◌, drop, take, length, Result, Ok, Err, refl, sym, ap, subst, ◌∙◌, arith}
-use Rattle.std.specs.Prelude.{OnOk, nat_le, nat_lt}
+use Rattle.std.specs.Prelude.{OnErr, OnOk, nat_le, nat_lt}
 use Rattle.std.specs.List.{flat_map}
 use Rattle.std.specs.Int.{to_be_bytes, w32}
 use Rattle.std.proofs.lemmas.Grind.{common_steps}
@@ -25,6 +25,14 @@ use Rattle.server_control.proofs.Free.{full_is}
 pub on_ok : {X E A B : Type 0} (r : Result X E) → OnOk r A → (A → B) → OnOk r B
 on_ok (Ok x) h into = into h
 on_ok (Err e) h into = tt
+
+pub on_err : {X E A : Type 0} (r : Result X E) → A → OnErr r A
+on_err (Ok x) h = tt
+on_err (Err e) h = h
+
+pub on_err_then : {X E A B : Type 0} (r : Result X E) → OnErr r A → (A → B) → OnErr r B
+on_err_then (Ok x) h into = tt
+on_err_then (Err e) h into = into h
 
 -- ---- what stands behind the front
 
@@ -127,3 +135,10 @@ module _ {S : Type 0} (means : S → Peer → Type 0) (before : List Action) (wa
     pub when_admitted : (r.packet.id == 0) ≡ false → CourseStands means before core out (server.admitted d draw r c) → CourseStands means before core out (server.of_nobody d draw r c b)
     when_admitted used so =
         with_room (subst (λ (z : Bool). CourseStands means before core out (cond z (reported (notes.Replayed r.packet.time r.packet.id) c) (server.admitted d draw r c))) (sym used) so)
+
+    -- it is admitted
+    pub is_admitted : (r.packet.id == 0) ≡ false → server.of_nobody d draw r c b ≡ server.admitted d draw r c
+    is_admitted used =
+        ap (server.of_nobody d draw r c) begins
+        ∙ ap (server.admitted_unless_full d draw r c) (sym (sym (is_less (length (entries_of was.clients)) (most_of was.clients) room) ∙ full_is means was c.table h))
+        ∙ ap (λ (z : Bool). cond z (reported (notes.Replayed r.packet.time r.packet.id) c) (server.admitted d draw r c)) used

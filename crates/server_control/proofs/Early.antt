@@ -1,5 +1,5 @@
 -- What a client does with a packet is no refusal that comes before anything is done.
-use Rattle.std.proofs.Common.{◌≡◌, ℕ, Bool, true, false, List, [], ◌∷◌, ◌++◌, map, Option, Some, None, Result, Ok, Err, refl, sym, ap, subst, ◌∙◌}
+use Rattle.std.proofs.Common.{◌≡◌, ℕ, Bool, true, false, List, [], ◌∷◌, ◌++◌, length, map, Option, Some, None, Result, Ok, Err, refl, sym, ap, subst, ◌∙◌}
 use Rattle.std.specs.Prelude.{◌||◌}
 use Rattle.std.specs.List.{list_any}
 use Rattle.std.proofs.lemmas.List.Folds.{list_any-append}
@@ -8,7 +8,7 @@ use Rattle.vpn_base.specs.declared.names.Cause.{Cause}
 use Rattle.vpn_base.specs.declared.names.Draw.{Draw}
 use Rattle.vpn_base.specs.declared.names.Role.{Role}
 use Rattle.vpn_links.specs.Actions.{Action, Configure, Device, EngineClose, EngineOpen, EnginePut, EngineWrite, Ask, Report, Say, Stop, Wire, on_wire}
-use Rattle.peer_table.specs.ControlPackets.{Incoming}
+use Rattle.peer_table.specs.ControlPackets.{Incoming, control_came}
 use Rattle.peer_table.specs.Outboxes.{actions_of}
 use Rattle.peer_table.specs.Peer.{Closes, Doing, Opens, Outcome, Puts, Writes}
 use Rattle.peer_table.specs.Time.{closings}
@@ -16,8 +16,8 @@ use Rattle.peer_table.specs.declared.outcomes.Refused.{Refused}
 use Rattle.peer_table.specs.declared.outcomes.Refused.TheVariants.{BadKey, Replayed}
 use Rattle.peer_table.specs.declared.outcomes.Turn.{Turn}
 use Rattle.peer_table.specs.declared.outcomes.Turn.TheVariants.{Exchange, Going, Ignored, Named, Over}
-use Rattle.server_table.specs.ControlDatagrams.{ControlPacket, admitted, control_answered, control_for, opened_for, session_begun, to_client}
-use Rattle.server_table.specs.Courses.{Course, Staged, outs}
+use Rattle.server_table.specs.ControlDatagrams.{ControlPacket, admitted, control_answered, control_for, incoming, opened_for, session_begun, to_client}
+use Rattle.server_table.specs.Courses.{Course, Staged, acted, outs}
 use Rattle.server_table.specs.Endings.{disconnect_line, ended, ended_as, turned}
 use Rattle.server_table.specs.Lookups.{client_here}
 use Rattle.server_table.specs.Runs.{is_early_note, is_refusal}
@@ -75,11 +75,11 @@ none_told n (Some e) = refl
 
 none_ended : (n : ℕ) (cause : Cause) (c : Course) → NoneEarly c.effects → NoneEarly (ended n cause c).effects
 unfolding ended
-none_ended n cause c none = as (client_here c.table n)
+none_ended n cause c none = answer_by (client_here c.table n)
   where
-    as : (o : Option Client) → NoneEarly (ended_as n cause c o).effects
-    as None = none
-    as (Some x) =
+    answer_by : (o : Option Client) → NoneEarly (ended_as n cause c o).effects
+    answer_by None = none
+    answer_by (Some x) =
         none_append c.effects _ none
         (none_append (disconnect_line n x.established) _ (none_told n x.established) (none_done x.session.role (closings x.session.sessions)))
 
@@ -98,19 +98,26 @@ none_answered n x i c (Err (Replayed time id)) none = none_append c.effects _ no
 -- a client that takes a packet, or refuses it, has it reported with no such note
 pub none_taken : (r : ControlPacket) (n : ℕ) (c : Course) → NoneEarly c.effects → NoneEarly (to_client r n c).effects
 unfolding to_client
-none_taken r n c none = as (client_here c.table n)
+none_taken r n c none = answer_by (client_here c.table n)
   where
-    as : (o : Option Client) → NoneEarly (control_for r n c o).effects
-    as None = none
-    as (Some x) = none_answered n x _ _ _ (none_append c.effects _ none (none_done _ _))
+    answer_by : (o : Option Client) → NoneEarly (control_for r n c o).effects
+    answer_by None = none
+    answer_by (Some x) =
+        let o = control_came x.session (incoming r c x) in
+        none_answered n x (incoming r c x) (acted n x.address o c) o.answer
+        (none_append c.effects (actions_of o.peer.role o.doings) none (none_done o.peer.role o.doings))
+
+-- what was staged behind such effects is no such note either
+none_out : (d : Course) → NoneEarly d.effects → is_refusal (outs d) ≡ false
+none_out d none = not_refused (outs d) (none_append d.effects (map (λ (s : Staged). on_wire s.datagram) d.staged) none (none_wired d.staged))
 
 pub taking_is_no_refusal : (r : ControlPacket) (n : ℕ) (c : Course) → c.effects ≡ [] → is_refusal (outs (to_client r n c)) ≡ false
-taking_is_no_refusal r n c fresh =
-    not_refused _ (none_append (to_client r n c).effects _ (none_taken r n c (ap (list_any is_early) fresh)) (none_wired (to_client r n c).staged))
+taking_is_no_refusal r n c fresh = none_out (to_client r n c) (none_taken r n c (ap (list_any is_early) fresh))
 
 pub admitting_is_no_refusal : (from : Addr) (bytes : List ℕ) (lacks : Bool) (draw : Draw) (r : ControlPacket) (c : Course) → c.effects ≡ []
     → is_refusal (outs (admitted (record { from = from; bytes = bytes; lacks = lacks }) draw r c)) ≡ false
 admitting_is_no_refusal from bytes lacks draw r c fresh =
-    not_refused _
-    (none_append (admitted (record { from = from; bytes = bytes; lacks = lacks }) draw r c).effects _
-    (none_taken r _ (opened_for from c (session_begun c.table draw)) (none_append c.effects _ (ap (list_any is_early) fresh) (none_done _ _))) (none_wired _))
+    let o = session_begun c.table draw in
+    none_out (admitted (record { from = from; bytes = bytes; lacks = lacks }) draw r c)
+    (none_taken r (length c.table.clients) (opened_for from c o)
+    (none_append c.effects (actions_of o.peer.role o.doings) (ap (list_any is_early) fresh) (none_done o.peer.role o.doings)))

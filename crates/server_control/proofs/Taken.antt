@@ -14,6 +14,7 @@ use Rattle.peer_table.specs.declared.outcomes.Refused.TheVariants.{Replayed, Bad
 use Rattle.peer_table.specs.declared.outcomes.Turn.{Turn}
 use Rattle.peer_table.specs.ControlPackets.{Incoming, control_came}
 use Rattle.peer_table.specs.KeySessions.{live_with}
+use Rattle.peer_table.specs.Naming.{number_of}
 use Rattle.peer_table.specs.Outboxes.{Leaves, actions_of}
 use Rattle.peer_table.specs.Outboxes as boxes
 use Rattle.peer_table.specs.Peer.{Closes, Doing, Opens, Outcome, Peer, Puts, Writes}
@@ -206,7 +207,7 @@ module _ {S : Type 0} (means : S → Peer → Type 0) (before : List Action) (co
       → (x : Client) → client_here c.table core.turn.0 ≡ Some x
       → CourseStands means before (record core { clients = ct1; connections = core.connections + opens_in (actions_of o.peer.role o.doings) }) new (acted core.turn.0 x.address o c))
       (opened : Opened) (view : ControlView) (to : Addr) (address : option_map (λ e. e.key.address) (slice_get (entries_of core.clients) i) ≡ Some to)
-      (number : ℕ) (number_is : (p : Peer) → means v.session p → number ≡ server.number_of p (live_with p.timers core.moment.0 p.sessions (opened.first % 8)))
+      (number : ℕ) (number_is : (p : Peer) → means v.session p → number ≡ number_of p (live_with p.timers core.moment.0 p.sessions (opened.first % 8)))
       (answer : Result Turn Refused) (w_is : w ≡ heard_after (Ok answer) core.moment v w.session) where
     abbrev pub given : Incoming
     given = boxes.incoming opened view (record { 0 = core.connections }) (is_some v.established) core.moment
@@ -229,7 +230,7 @@ module _ {S : Type 0} (means : S → Peer → Type 0) (before : List Action) (co
     o = control_came x.session wanted
 
     session_is : number ≡ server.control_session wanted x.session
-    session_is = number_is x.session state_was.session ∙ ap (λ (now : ℕ). server.number_of x.session (live_with x.session.timers now x.session.sessions (opened.first % 8))) h.table.moment
+    session_is = number_is x.session state_was.session ∙ ap (λ (now : ℕ). number_of x.session (live_with x.session.timers now x.session.sessions (opened.first % 8))) h.table.moment
 
     named : o.peer.name ≡ x.session.name
     named = (keeps x.session wanted).name

@@ -64,21 +64,21 @@ sealed_told : (n : ℕ) (inner : List ℕ) (c : Course) → IsTold c.effects →
 unfolding sealed_to
 sealed_told n inner c told = for_client (inner_packets.client_here c.table n)
   where
-    as : (x : Client) (peer : Peer) (answer : Result (List ℕ) Spent) → IsTold (inner_packets.sealed_as n x c peer answer).effects
-    as x peer (Ok datagram) = told_first c.effects _ told
-    as x peer (Err spent) = told_first c.effects _ told
+    answer_by : (x : Client) (peer : Peer) (answer : Result (List ℕ) Spent) → IsTold (inner_packets.sealed_as n x c peer answer).effects
+    answer_by x peer (Ok datagram) = told_first c.effects _ told
+    answer_by x peer (Err spent) = told_first c.effects _ told
 
     for_client : (o : Option Client) → IsTold (inner_packets.sealed_for n inner c o).effects
     for_client None = told
-    for_client (Some x) = let o : Outcome (Result (List ℕ) Spent) = packets.sealed_to inner x.session in as x o.peer o.answer
+    for_client (Some x) = let o : Outcome (Result (List ℕ) Spent) = packets.sealed_to inner x.session in answer_by x o.peer o.answer
 
 queued_told : (n : ℕ) (inner : List ℕ) (c : Course) → IsTold c.effects → IsTold (queued n inner c).effects
 unfolding queued
-queued_told n inner c told = as (nat_le inner_packets.most_queued _)
+queued_told n inner c told = answer_by (nat_le inner_packets.most_queued _)
   where
-    as : (full : Bool) → IsTold (inner_packets.queued_unless_full n inner c full).effects
-    as true = told_first c.effects _ told
-    as false = told
+    answer_by : (full : Bool) → IsTold (inner_packets.queued_unless_full n inner c full).effects
+    answer_by true = told_first c.effects _ told
+    answer_by false = told
 
 learned_alike : (n : ℕ) (host : Ip4) (c : Course) → IsAlike (learned true n host c) (learned false n host c)
 unfolding learned
@@ -111,11 +111,11 @@ passed_alike n inner c NoRoute = Same refl
 
 carried_alike : (n : ℕ) (inner : List ℕ) (c : Course) → IsAlike (data_packets.carried true n inner c) (data_packets.carried false n inner c)
 unfolding data_packets.carried
-carried_alike n inner c = as (bytes_eq inner data_packets.ping)
+carried_alike n inner c = answer_by (bytes_eq inner data_packets.ping)
   where
-    as : (is_ping : Bool) → IsAlike (data_packets.carried_as true n inner c is_ping) (data_packets.carried_as false n inner c is_ping)
-    as true = Same refl
-    as false = passed_alike n inner c _
+    answer_by : (is_ping : Bool) → IsAlike (data_packets.carried_as true n inner c is_ping) (data_packets.carried_as false n inner c is_ping)
+    answer_by true = Same refl
+    answer_by false = passed_alike n inner c _
 
 -- ---- what a datagram comes to
 
@@ -193,8 +193,8 @@ came_alike draw Halt c = Same refl
 
 -- where none is reported, it does the same
 pub hosts_alone_lack : (draw : Draw) (kind : Kind) (c : Course) → list_any is_not_learned (outs (came true draw kind c)) ≡ false → came true draw kind c ≡ came false draw kind c
-hosts_alone_lack draw kind c none = as (came_alike draw kind c)
+hosts_alone_lack draw kind c none = answer_by (came_alike draw kind c)
   where
-    as : IsAlike (came true draw kind c) (came false draw kind c) → came true draw kind c ≡ came false draw kind c
-    as (Same is) = is
-    as (Told told) = absurd (cc (none, told_first _ (map (λ (s : Staged). on_wire s.datagram) (came true draw kind c).staged) told))
+    answer_by : IsAlike (came true draw kind c) (came false draw kind c) → came true draw kind c ≡ came false draw kind c
+    answer_by (Same is) = is
+    answer_by (Told told) = absurd (cc (none, told_first _ (map (λ (s : Staged). on_wire s.datagram) (came true draw kind c).staged) told))

@@ -40,25 +40,25 @@ module _ {S : Type 0} (means : S → Peer → Type 0) (before : List Action) (co
       (moved.0 ∙ all ∙ append_assoc before c.effects (map (λ (s : Staged). on_wire s.datagram) c.staged), moved.1)
 
   module _ (t : Table) (event : Event) (goes : is_over t ≡ false) where
-    as : (lacks : Bool) → (lacks ≡ true → MayLack t event LacksHost) → CourseStands means before core out (step lacks t event)
+    answer_by : (lacks : Bool) → (lacks ≡ true → MayLack t event LacksHost) → CourseStands means before core out (step lacks t event)
         → Stepped next_table told_of MayLack (CoreStands means core) t event before settled
-    as lacks may h = record { lacks = lacks; may = may; stands = h.table; told = told (step lacks t event) h }
+    answer_by lacks may h = record { lacks = lacks; may = may; stands = h.table; told = told (step lacks t event) h }
 
     needed : (b : Bool) → needs_host t event ≡ b → CourseStands means before core out (step true t event)
         → Stepped next_table told_of MayLack (CoreStands means core) t event before settled
     unfolding needs_host
-    needed true needs h = as true (λ _. needs) h
+    needed true needs h = answer_by true (λ _. needs) h
     needed false none h =
         let same : came true event.draw event.kind (course_begun t event) ≡ came false event.draw event.kind (course_begun t event) =
             hosts_alone_lack event.draw event.kind (course_begun t event) (ap (λ (c : Course). list_any is_not_learned (outs c)) (step_is true t event goes) ∙ none) in
-        as false (λ is. absurd (false≢true is))
+        answer_by false (λ is. absurd (false≢true is))
         (subst (CourseStands means before core out) (sym (step_is true t event goes) ∙ same ∙ step_is false t event goes) h)
 
     -- the event has come
     pub stepped : (lacks : Bool) → CourseStands means before core out (came lacks event.draw event.kind (course_begun t event))
         → Stepped next_table told_of MayLack (CoreStands means core) t event before settled
     stepped true h = needed (needs_host t event) refl (subst (CourseStands means before core out) (step_is true t event goes) h)
-    stepped false h = as false (λ is. absurd (false≢true is)) (subst (CourseStands means before core out) (step_is false t event goes) h)
+    stepped false h = answer_by false (λ is. absurd (false≢true is)) (subst (CourseStands means before core out) (step_is false t event goes) h)
 
 or_false : (a b c : Bool) → a ≡ false → b ≡ false → c ≡ false → (a || b || c) ≡ false
 or_false a b c is none nothing = rw (is, none, nothing) refl

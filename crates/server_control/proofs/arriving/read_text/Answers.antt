@@ -1,9 +1,11 @@
-use Rattle.std.proofs.Common.{length, subst}
+use Rattle.std.proofs.Common.{length, subst, sym, ap, ◌∙◌}
 use Rattle.opcode_codec.specs.ControlText.{control_form}
 use Rattle.server_table.specs.ControlDatagrams as server
+use Rattle.server_table.specs.Courses.{outs}
+use Rattle.server_table.specs.Runs.{is_refusal}
 use Rattle.server_state.specs.Core.{CourseStands}
 use Rattle.server_control.specs.Packets.{opened_packet}
-use Rattle.server_control.proofs.Arrived.{fewer, on_ok, payload_fits}
+use Rattle.server_control.proofs.Arrived.{fewer, on_err_then, on_ok, payload_fits}
 use Rattle.server_control.proofs.arriving.read_text.Goals as goal
 
 pub find_client-requires-clause-wire : goal.find_client-requires-clause-wire
@@ -18,3 +20,13 @@ returns-in-Ok-clause-read g c =
     subst (λ o. CourseStands g.S.ClientSession.stands before c.find_client.new.core c.find_client.new.out
     (server.control_read (record { from = c.args.from; bytes = bytes; lacks = lacks }) c.args.draw.now c.args.op (opened_packet c.args.opened.now) course o))
     c.in-Ok.ensures.exact (found before course bytes lacks h))
+
+pub returns-in-Ok-clause-lacking : goal.returns-in-Ok-clause-lacking
+returns-in-Ok-clause-lacking g c =
+    on_err_then c.find_client.result c.find_client.ensures.lacking
+    (λ lacking before course bytes lacks first h fresh.
+    ap
+    (λ o. is_refusal (outs
+    (server.control_read (record { from = c.args.from; bytes = bytes; lacks = lacks }) c.args.draw.now c.args.op (opened_packet c.args.opened.now) course o)))
+    (sym c.in-Ok.ensures.exact)
+    ∙ lacking before course bytes lacks h fresh)
