@@ -1,5 +1,5 @@
 -- For which tables a core stands, and how far a step of it has come.
-use Rattle.std.specs.Prelude.{◌≡◌, ℕ, ◌+◌, ◌*◌, ◌^◌, ◌≤◌, ◌<◌, List, ◌∷◌, ◌++◌, length, map, filter_map, option_map, Option, Some, None}
+use Rattle.std.specs.Prelude.{◌≡◌, ℕ, ◌+◌, ◌-◌, ◌*◌, ◌^◌, ◌≤◌, ◌<◌, List, ◌∷◌, ◌++◌, length, map, filter_map, option_map, Option, Some, None}
 use Rattle.std.specs.List.{AllByRecursion}
 use Rattle.vpn_base.specs.declared.address.Ip4.{Ip4}
 use Rattle.vpn_base.specs.declared.names.Moment.{Moment}
@@ -117,3 +117,7 @@ pub record IsSound {S : Type 0} (goes_on : S → Type 0) (count since : S → �
   pub most : most_of core.clients ≤ 4096
   pub admitted : admitted_by core.clients ≤ core.events
   pub connections : core.connections ≤ 2 ^ 13 * core.events
+
+-- what holds of every core, before anything is done for an event that counts already
+abbrev pub IsSoundAhead : {S : Type 0} → (S → Type 0) → (S → ℕ) → (S → ℕ) → ServerCore S → Type 0
+IsSoundAhead goes_on count since core = IsSound goes_on count since (record core { events = core.events - 1 })
