@@ -1,19 +1,22 @@
 -- What holds of every core, before and after memory is taken for an event that counts already.
 use Rattle.std.proofs.Common.{◌≡◌, ℕ, ◌+◌, ◌-◌, ◌*◌, ◌^◌, ◌≤◌, Bool, List, [], ◌∷◌, length, refl, sym, ap, subst, ◌∙◌, arith}
 use Rattle.std.specs.List.{AllByRecursion}
-use Rattle.vpn_links.specs.Actions.{Contents, Datagram, Holds}
+use Rattle.vpn_links.specs.Actions.{Action, Contents, Datagram, Holds}
 use Rattle.vpn_links.specs.declared.events.Kind.{Kind}
 use Rattle.client_table.specs.Entries.{Entry}
 use Rattle.client_table.specs.Tables.{admitted_by, entries_of, most_of}
 use Rattle.peer_table.specs.Peer.{Peer}
+use Rattle.server_table.specs.Courses.{Course}
+use Rattle.server_table.specs.Time.{clients_ticked, tick}
 use Rattle.server_state.specs.declared.client.ClientState.{ClientState}
 use Rattle.server_state.specs.declared.state.ServerCore.{ServerCore}
-use Rattle.server_state.specs.Core.{GoesOn, IsSound, IsSoundAhead}
+use Rattle.server_state.specs.Core.{CourseStands, GoesOn, IsSound, IsSoundAhead}
 use Rattle.server_time.specs.Memory.{AreReady, HasMemory, StaysSame, from_on}
 use Rattle.server_time.specs.Others.{KeepsRest}
 use Rattle.server_time.specs.Turns.{IsNext}
 use Rattle.server_time.specs.internal.Walks.{MayGoOn}
 use Rattle.server_time.proofs.Next.{all_are}
+use Rattle.server_time.proofs.Untold.{untold}
 
 -- ---- records of the core, each made in one place
 
@@ -41,6 +44,18 @@ all_go goes_on count since few most moment more (e ∷ es) all =
     (more_go_on goes_on count since few most moment e more all.0, all_go goes_on count since few most moment more es all.1)
 
 -- ---- the core
+
+-- taking memory keeps the rest
+pub rest_same : {S : Type 0} (means : S → Peer → Type 0) (goes_on : S → Type 0) (count since : S → ℕ) (before after : ServerCore S)
+    → StaysSame means goes_on count since before after → KeepsRest before after
+rest_same means goes_on count since before after s = record {
+  settings = ap (λ (core : ServerCore _). core.settings) s.others;
+  moment = ap (λ (core : ServerCore _). core.moment) s.others;
+  events = ap (λ (core : ServerCore _). core.events) s.others;
+  count_interval = ap (λ (core : ServerCore _). core.count_interval) s.others;
+  held = ap (λ (core : ServerCore _). core.held) s.others;
+  is_stopped = ap (λ (core : ServerCore _). core.is_stopped) s.others;
+}
 
 module _ {S : Type 0} (goes_on : S → Type 0) (count since : S → ℕ) (before : ServerCore S) (h : IsSoundAhead goes_on count since before) where
   -- few enough sessions to take memory
@@ -76,16 +91,6 @@ module _ {S : Type 0} (goes_on : S → Type 0) (count since : S → ℕ) (before
         is_sound goes_on count since after (sessions_after (after.events + 1) (omega (arith, events_same))) most_after
         (omega (arith, h.admitted, s.admitted, events_same)) (omega (arith, h.connections, connections_same, events_same))
 
-    pub rest_same : KeepsRest before after
-    rest_same = record {
-      settings = ap (λ (core : ServerCore S). core.settings) s.others;
-      moment = ap (λ (core : ServerCore S). core.moment) s.others;
-      events = events_same;
-      count_interval = ap (λ (core : ServerCore S). core.count_interval) s.others;
-      held = ap (λ (core : ServerCore S). core.held) s.others;
-      is_stopped = ap (λ (core : ServerCore S). core.is_stopped) s.others;
-    }
-
     none_next : (staged : List Datagram) (turn : ℕ) → staged ≡ [] → IsNext staged turn 0
     none_next staged turn none = subst (λ staged. IsNext staged turn 0) (sym none) tt
 
@@ -106,3 +111,19 @@ module _ {S : Type 0} (goes_on : S → Type 0) (count since : S → ℕ) (before
           ready = subst (λ es. AreReady is_ready es m.effects m.bytes) (sym every) m.ready;
           room = m.room;
         }
+
+-- ---- courses
+
+-- memory was taken, and the course is as far as it was
+pub course_same : {S : Type 0} (means : S → Peer → Type 0) (goes_on : S → Type 0) (count since : S → ℕ) (core after : ServerCore S) (old new : Contents)
+    → StaysSame means goes_on count since core after → Holds new old.effects old.staged → (before : List Action) (c : Course) → CourseStands means before core old c
+    → CourseStands means before after new c
+course_same means goes_on count since core after old new s holds before c h =
+    let still = s.same before old c h in
+    record { table = still.table; outbox = (holds.0 ∙ still.outbox.0, holds.1 ∙ still.outbox.1); in_turn = still.in_turn }
+
+-- time has passed for all clients, which is all where nothing is told of bytes
+pub all_ticked : {S : Type 0} (means : S → Peer → Type 0) (before : List Action) (core after : ServerCore S) (old new : Contents) (c : Course) → CourseStands means before core old c
+    → core.count_interval ≡ 0 → CourseStands means before after new (clients_ticked (length c.table.clients) 0 c) → CourseStands means before after new (tick c)
+all_ticked means before core after old new c h none ticked =
+    subst (CourseStands means before after new) (sym (untold c (sym h.table.count_interval ∙ none))) ticked

@@ -88,14 +88,14 @@ module _ {S : Type 0} (is_ready : S → Kind → Bool → ℕ → ℕ → Type 0
         (sym (ap (λ m. m.0) l.rest.moment))
         (subst (AllByRecursion (GoesOn goes_on count since core.events core.moment.0)) (sym l.behind) all.1))
 
-    as_many : length (from_on (m + 1) (entries_of after.clients)) ≡ length (from_on (m + 1) (entries_of core.clients))
-    as_many = ap (λ es. length es) l.behind
+    as_few : length (from_on (m + 1) (entries_of after.clients)) ≡ length (from_on (m + 1) (entries_of core.clients))
+    as_few = ap (λ es. length es) l.behind
 
     pub goes_on_behind : MayGoOn is_ready goes_on count since (m + 1) after new
     goes_on_behind = record {
       sound = sound;
       sessions = others;
-      opens = omega (arith, h.opens, one_less, as_many, l.opened, l.rest.events);
+      opens = omega (arith, h.opens, one_less, as_few, l.opened, l.rest.events);
       events = omega (arith, h.events, l.rest.events);
       next = next_behind new.staged after.turn.0 m turn;
       effects = r.other_effects;
@@ -115,13 +115,18 @@ one_ticked m most c =
     let more : suc m ≡ m + 1 = omega arith in
     ap (λ (k : ℕ). clients_ticked most k (client_ticked m c)) more
 
+as_many : (all most : ℕ) (c : Course) → 0 + most ≡ all → clients_ticked all 0 c ≡ clients_ticked most 0 c
+as_many all most c is =
+    let same : all ≡ most = omega (arith, is) in
+    ap (λ (k : ℕ). clients_ticked k 0 c) same
+
 module _ {S : Type 0} (means : S → Peer → Type 0) (before : List Action) where
   -- at the beginning
   pub has_begun : (core : ServerCore S) (out : Contents) (c : Course) → CourseStands means before core out c → HasCome means before core out 0 c
   has_begun core out c h = record {
     reached = c;
     stands = h;
-    rest = λ most is. ap (λ (k : ℕ). clients_ticked k 0 c) (omega (arith, is));
+    rest = λ most is. as_many (length c.table.clients) most c is;
   }
 
   -- one client more

@@ -74,12 +74,7 @@ pub fn tick<S: ClientSession + Drop>(
     ensures kept { OnErr result ((before : List Action) (c : Course) → CourseStands S.stands before core.old out.old c →
         CourseStands S.stands before core.new out.new c) }
     ensures sound { MatchResult result (λ _. IsSound S.goes_on S.count S.since core.new) (λ _. IsSoundAhead S.goes_on S.count S.since core.new) }
-    ensures settings_stay { core.new.settings ≡ core.old.settings }
-    ensures moment_stays { core.new.moment ≡ core.old.moment }
-    ensures events_stay { core.new.events ≡ core.old.events }
-    ensures count_interval_stays { core.new.count_interval ≡ core.old.count_interval }
-    ensures held_stays { core.new.held ≡ core.old.held }
-    ensures is_stopped_stays { core.new.is_stopped ≡ core.old.is_stopped }
+    ensures rest { KeepsRest core.old core.new }
 {
     client_table::no_more_are_here_than_may_be::<ClientState<S>>();
     match take_memory(core, out) {

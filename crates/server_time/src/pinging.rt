@@ -46,6 +46,7 @@ fn is_due<S: ClientSession>(core: &ServerCore<S>, cid: Cid) -> bool
 }
 
 /// Seals a ping to the client of this number, if it is here and one is due. It takes no memory.
+#[tactic(auto, using(crate::proofs::Others::others_itself, crate::proofs::Others::others_sealed))]
 pub fn ping<S: ClientSession>(core: &mut ServerCore<S>, cid: Cid, out: &mut Outbox)
     requires room { HasRoom out.old 2 1524 }
     requires sound { IsSound S.goes_on S.count S.since core.old }

@@ -67,6 +67,7 @@ fn tick_at<S: ClientSession>(core: &mut ServerCore<S>, i: usize, to: Addr, out: 
 }
 
 // The client whose turn it is ends where its session says so.
+#[tactic(auto, using(crate::proofs::Others::others_itself, crate::proofs::Others::others_ended))]
 fn end_if_over<S: ClientSession + Drop>(
     core: &mut ServerCore<S>,
     cid: Cid,
