@@ -10,7 +10,7 @@ use Rattle.server_table.specs.Courses.{Course}
 use Rattle.server_table.specs.Time.{clients_ticked, tick}
 use Rattle.server_state.specs.declared.client.ClientState.{ClientState}
 use Rattle.server_state.specs.declared.state.ServerCore.{ServerCore}
-use Rattle.server_state.specs.Core.{CourseStands, GoesOn, IsSound, IsSoundAhead}
+use Rattle.server_state.specs.Core.{AreTimersFor, CourseStands, GoesOn, IsSound, IsSoundAhead, StaysTold}
 use Rattle.server_time.specs.Memory.{AreReady, HasMemory, StaysSame, from_on}
 use Rattle.server_time.specs.Others.{KeepsRest}
 use Rattle.server_time.specs.Turns.{IsNext}
@@ -27,12 +27,15 @@ more_go_on goes_on count since few most moment e more h = record { session = h.s
 -- what holds of a core, where it holds of its clients and its numbers
 is_sound : {S : Type 0} (goes_on : S → Type 0) (count since : S → ℕ) (core : ServerCore S)
     → AllByRecursion (GoesOn goes_on count since (core.events + 1) core.moment.0) (entries_of core.clients) → most_of core.clients ≤ 4096
-    → admitted_by core.clients ≤ core.events → core.connections ≤ 2 ^ 13 * core.events → IsSound goes_on count since core
-is_sound goes_on count since core sessions most admitted connections = record {
+    → admitted_by core.clients ≤ core.events → core.connections ≤ 2 ^ 13 * core.events → AreTimersFor core.settings.timers → core.count_interval ≡ 0
+    → IsSound goes_on count since core
+is_sound goes_on count since core sessions most admitted connections timers no_counts = record {
   sessions = sessions;
   most = most;
   admitted = admitted;
   connections = connections;
+  timers = timers;
+  no_counts = no_counts;
 }
 
 -- ---- lists
@@ -42,6 +45,19 @@ all_go : {S : Type 0} (goes_on : S → Type 0) (count since : S → ℕ) (few mo
 all_go goes_on count since few most moment more [] all = tt
 all_go goes_on count since few most moment more (e ∷ es) all =
     (more_go_on goes_on count since few most moment e more all.0, all_go goes_on count since few most moment more es all.1)
+
+-- sessions that go on, and were told no moment behind another one
+told_by : {S : Type 0} (goes_on : S → Type 0) (count since : S → ℕ) (most moment other : ℕ) (es : List (Entry (ClientState S)))
+    → AllByRecursion (GoesOn goes_on count since most moment) es → AllByRecursion (λ (e : Entry (ClientState S)). since e.value.session ≤ other) es
+    → AllByRecursion (GoesOn goes_on count since most other) es
+told_by goes_on count since most moment other [] all told = tt
+told_by goes_on count since most moment other (e ∷ es) all told =
+    (record { session = all.0.session; few = all.0.few; past = told.0 }, told_by goes_on count since most moment other es all.1 told.1)
+
+none_later : {S : Type 0} (goes_on : S → Type 0) (count since : S → ℕ) (most moment : ℕ) (es : List (Entry (ClientState S)))
+    → AllByRecursion (GoesOn goes_on count since most moment) es → AllByRecursion (λ (e : Entry (ClientState S)). since e.value.session ≤ moment) es
+none_later goes_on count since most moment [] all = tt
+none_later goes_on count since most moment (e ∷ es) all = (all.0.past, none_later goes_on count since most moment es all.1)
 
 -- ---- the core
 
@@ -77,19 +93,33 @@ module _ {S : Type 0} (goes_on : S → Type 0) (count since : S → ℕ) (before
         (all_go goes_on count since (before.events - 1 + 1) most before.moment.0 more (entries_of after.clients)
         (s.sessions (before.events - 1 + 1) before.moment.0 h.sessions))
 
+    -- no session was told a later moment
+    pub still_told : StaysTold since before after
+    still_told moment told =
+        none_later goes_on count since (before.events - 1 + 1) moment (entries_of after.clients)
+        (s.sessions (before.events - 1 + 1) moment (told_by goes_on count since (before.events - 1 + 1) before.moment.0 moment (entries_of before.clients) h.sessions told))
+
     most_after : most_of after.clients ≤ 4096
     most_after = omega (arith, h.most, s.most)
+
+    timers_after : AreTimersFor after.settings.timers
+    timers_after = subst (λ settings. AreTimersFor settings.timers) (sym (ap (λ (core : ServerCore S). core.settings) s.others)) h.timers
+
+    no_counts_after : after.count_interval ≡ 0
+    no_counts_after = ap (λ (core : ServerCore S). core.count_interval) s.others ∙ h.no_counts
 
     -- memory was taken, and nothing was done
     pub still_ahead : IsSoundAhead goes_on count since after
     still_ahead =
         is_sound goes_on count since (record after { events = after.events - 1 }) (sessions_after (after.events - 1 + 1) (omega (arith, events_same))) most_after
         (omega (arith, h.admitted, s.admitted, events_same)) (omega (arith, h.connections, connections_same, events_same))
+        timers_after no_counts_after
 
     pub sound_now : IsSound goes_on count since after
     sound_now =
         is_sound goes_on count since after (sessions_after (after.events + 1) (omega (arith, events_same))) most_after
         (omega (arith, h.admitted, s.admitted, events_same)) (omega (arith, h.connections, connections_same, events_same))
+        timers_after no_counts_after
 
     none_next : (staged : List Datagram) (turn : ℕ) → staged ≡ [] → IsNext staged turn 0
     none_next staged turn none = subst (λ staged. IsNext staged turn 0) (sym none) tt

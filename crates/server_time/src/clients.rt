@@ -1,12 +1,12 @@
 //! Time passes for all clients.
 
 ghost use Rattle.std.specs.Prelude.{◌≡◌, ◌+◌, ◌-◌, ◌≤◌, ◌<◌, ◌^◌, [], List, IfSome, IfNone, MatchResult, OnOk, OnErr, length};
-ghost use Rattle.vpn_links.specs.Actions.{Action};
+ghost use Rattle.vpn_links.specs.Actions.{Action, Holds};
 ghost use Rattle.client_table.specs.Tables.{admitted_by};
 ghost use Rattle.server_table.specs.Courses.{Course};
 ghost use Rattle.server_table.specs.Time as definitions;
 ghost use Rattle.server_table.specs.Time.{clients_ticked};
-ghost use Rattle.server_state.specs.Core.{CourseStands, IsSound, IsSoundAhead};
+ghost use Rattle.server_state.specs.Core.{CourseStands, IsSound, IsSoundAhead, StaysTold};
 ghost use Rattle.server_time.specs.Others.{KeepsRest};
 ghost use Rattle.server_time.specs.internal.Walks.{MayGoOn, PassesTo, next_ticked};
 
@@ -75,6 +75,8 @@ pub fn tick<S: ClientSession + Drop>(
         CourseStands S.stands before core.new out.new c) }
     ensures sound { MatchResult result (λ _. IsSound S.goes_on S.count S.since core.new) (λ _. IsSoundAhead S.goes_on S.count S.since core.new) }
     ensures rest { KeepsRest core.old core.new }
+    ensures still { OnErr result (StaysTold S.since core.old core.new) }
+    ensures outbox { OnErr result (Holds out.new out.old.effects out.old.staged) }
 {
     client_table::no_more_are_here_than_may_be::<ClientState<S>>();
     match take_memory(core, out) {
