@@ -1,13 +1,12 @@
 -- Time passes for one client after another.
-use Rattle.std.proofs.Common.{◌≡◌, ℕ, zero, suc, ◌+◌, ◌-◌, ◌*◌, ◌^◌, ◌<◌, ◌≤◌, Bool, List, [], ◌∷◌, length, slice_get, option_map, Option, Some, None, refl, sym, ap, subst, ◌∙◌, arith}
+use Rattle.std.proofs.Common.{◌≡◌, ℕ, suc, ◌+◌, ◌-◌, ◌<◌, ◌≤◌, Bool, List, [], ◌∷◌, length, option_map, Some, None, sym, ap, subst, ◌∙◌, arith}
 use Rattle.std.specs.List.{AllByRecursion}
-use Rattle.vpn_base.specs.declared.names.Cid.{Cid}
 use Rattle.vpn_links.specs.Actions.{Action, Contents, Datagram}
 use Rattle.vpn_links.specs.declared.events.Kind.{Kind}
-use Rattle.client_table.specs.Changes.{number_where, place_of}
+use Rattle.client_table.specs.Changes.{number_where}
 use Rattle.client_table.specs.Finding.{is_from}
 use Rattle.client_table.specs.Tables.{admitted_by, entries_of}
-use Rattle.peer_table.specs.Outboxes.{HasRoom, Uses}
+use Rattle.peer_table.specs.Outboxes.{Uses}
 use Rattle.peer_table.specs.Peer.{Peer}
 use Rattle.server_table.specs.Courses.{Course}
 use Rattle.server_table.specs.Time.{client_ticked, clients_ticked}
@@ -17,7 +16,7 @@ use Rattle.server_state.specs.Core.{CourseStands, GoesOn, IsSound}
 use Rattle.server_time.specs.Memory.{AreReady, NextIsReady, from_on}
 use Rattle.server_time.specs.Others.{LeavesOthers}
 use Rattle.server_time.specs.Turns.{IsNext, IsReadyAt, IsSoundBeforeTurn, MayTakeTurn}
-use Rattle.server_time.specs.internal.Walks.{HasCome, MayGoOn, PassesTo, next_ticked}
+use Rattle.server_time.specs.internal.Walks.{HasCome, MayGoOn, PassesTo}
 use Rattle.server_time.proofs.Next.{IsFirst, next_is, next_is_ready}
 
 -- ---- turns

@@ -58,8 +58,9 @@ fn tick_clients<S: ClientSession + Drop>(core: &mut ServerCore<S>, out: &mut Out
     }
 }
 
-/// Time passes for all clients that are here, in order of number, each as `client_ticked` has it. After want of
-/// memory nothing has changed but how much memory is taken. No byte counts are told: their interval is 0.
+/// Time passes for all clients that are here, in order of number. Nothing is told of byte counts, since their
+/// interval is 0. All memory is taken first: after want of it the core stands for the same, and the outbox holds
+/// the same.
 pub fn tick<S: ClientSession + Drop>(
     core: &mut ServerCore<S>,
     out: &mut Outbox,
@@ -68,7 +69,6 @@ pub fn tick<S: ClientSession + Drop>(
     requires counted { 1 ≤ core.old.events }
     requires few { core.old.events ≤ 2 ^ 48 }
     requires alone { out.old.staged ≡ [] }
-    requires no_counts { core.old.count_interval ≡ 0 }
     ensures ticked { OnOk result ((before : List Action) (c : Course) → CourseStands S.stands before core.old out.old c →
         CourseStands S.stands before core.new out.new (definitions.tick c)) }
     ensures kept { OnErr result ((before : List Action) (c : Course) → CourseStands S.stands before core.old out.old c →

@@ -18,7 +18,7 @@ tick_clients-requires g c = record {
 
 pub returns-in-Ok-clause-ticked : goal.returns-in-Ok-clause-ticked
 returns-in-Ok-clause-ticked g c before course h =
-    all_ticked g.S.ClientSession.stands before c.args.core.now c.tick_clients.new.core c.args.out.now c.tick_clients.new.out course h c.requires.no_counts
+    all_ticked g.S.ClientSession.stands before c.args.core.now c.tick_clients.new.core c.args.out.now c.tick_clients.new.out course h c.requires.sound.no_counts
     (c.tick_clients.ensures.ticked before course
     (course_same g.S.ClientSession.stands g.S.ClientSession.goes_on g.S.ClientSession.count g.S.ClientSession.since c.args.core.now c.take_memory.new.core c.args.out.now
     c.take_memory.new.out c.take_memory.ensures.stays c.take_memory.ensures.outbox before course h))

@@ -1,5 +1,4 @@
 use Rattle.std.proofs.Common.{◌≤◌, length, arith, subst, ◌∙◌}
-use Rattle.server_table.specs.Courses.{Course}
 use Rattle.server_state.specs.Core.{CourseStands}
 use Rattle.server_time.specs.internal.Walks.{PassesTo, next_ticked}
 use Rattle.server_time.proofs.Others.{rest_on}
