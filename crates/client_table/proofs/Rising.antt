@@ -6,7 +6,11 @@ use Rattle.std.proofs.lemmas.List.{length-append}
 use Rattle.vpn_base.specs.declared.names.Cid.{Cid}
 use Rattle.client_table.specs.declared.key.Key.{Key}
 use Rattle.client_table.specs.Changes.{changed_at, item_at, without_at}
+use Rattle.client_table.specs.declared.table.ClientTable.{ClientTable}
 use Rattle.client_table.specs.Sound.{are_below, rise_from}
+use Rattle.client_table.specs.Tables.{entries_of, most_of}
+use Rattle.client_table.proofs.Lists.{length_changed}
+use Rattle.client_table.proofs.Pairs.{length_is}
 
 both : (a b : Bool) → (a && b) ≡ true → (a ≡ true) × (b ≡ true)
 both true b e = (refl, e)
@@ -79,6 +83,30 @@ below_less most (k ∷ keys) zero below = (both (nat_lt k.peer_id most) (are_bel
 below_less most (k ∷ keys) (suc i) below =
     let h = both (nat_lt k.peer_id most) (are_below most keys) below in
     pair (nat_lt k.peer_id most) (are_below most (without_at i keys)) h.0 (below_less most keys i h.1)
+
+-- no more than so many
+is_few : (n most : ℕ) → nat_le n most ≡ true → n ≤ most
+is_few n most is = grind (arith, common_steps)
+
+are_few : (n most : ℕ) → n ≤ most → nat_le n most ≡ true
+are_few n most few = grind (arith, common_steps)
+
+pub few_changed : (most : ℕ) (keys : List Key) (i : ℕ) (f : Key → Key) → nat_le (length keys) most ≡ true → nat_le (length (changed_at i f keys)) most ≡ true
+few_changed most keys i f few = ap (λ n. nat_le n most) (length_changed i f keys) ∙ few
+
+pub few_more : (most : ℕ) (keys : List Key) (k : Key) → length keys < most → nat_le (length (keys ++ k ∷ [])) most ≡ true
+few_more most keys k less = are_few (length (keys ++ k ∷ [])) most (omega (arith, less, length-append keys (k ∷ [])))
+
+length_less : (i : ℕ) (keys : List Key) → length (without_at i keys) ≤ length keys
+length_less i [] = omega arith
+length_less zero (k ∷ keys) = omega arith
+length_less (suc i) (k ∷ keys) = omega (arith, length_less i keys)
+
+pub few_less : (most : ℕ) (keys : List Key) (i : ℕ) → nat_le (length keys) most ≡ true → nat_le (length (without_at i keys)) most ≡ true
+few_less most keys i few = are_few (length (without_at i keys)) most (omega (arith, length_less i keys, is_few (length keys) most few))
+
+pub few_here : {V : Type 0} (t : ClientTable V) → length (entries_of t) ≤ most_of t
+few_here t = omega (arith, length_is t.keys.items t.values.items t.paired, is_few (length t.keys.items) t.most t.few)
 
 -- the peer id at each place is below the most
 pub below_at : (most : ℕ) (keys : List Key) (o : Option ℕ) → are_below most keys ≡ true → IfSome (item_at keys o) (λ k. k.peer_id < most)

@@ -53,6 +53,7 @@ impl<V: Drop> ClientTable<V> {
     fn put(&mut self, peer_id: u32, from: Addr, sid: Sid, value: V) -> Cid
         requires few { admitted_by self.old < 2 ^ 64 - 1 }
         requires peer_id { peer_id < most_of self.old }
+        requires room { length (entries_of self.old) < most_of self.old }
         requires spare { 1 ≤ spare_of self.old }
         ensures put { Has self.new (entries_of self.old ++ newcomer (admitted_by self.old) peer_id from sid value ∷ []) (most_of self.old) (admitted_by self.old + 1) }
         ensures number { result.0 ≡ admitted_by self.old }

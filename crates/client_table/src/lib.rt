@@ -12,7 +12,7 @@ mod table;
 
 pub use calls::Full;
 pub use key::Key;
-pub use laws::{lending_sets_the_value, peer_ids_are_the_least_free};
+pub use laws::{lending_sets_the_value, no_more_are_here_than_may_be, peer_ids_are_the_least_free};
 pub use table::ClientTable;
 
 #[cfg(test)]

@@ -277,3 +277,7 @@ sound_after goes_on count since m core None place h =
 sound_after goes_on count since m core (Some i) place h =
     all_but (GoesOn goes_on count since (core.events + 1) core.moment.0) (entries_of core.clients) i
     (λ j e there apart. h.sessions j e there (λ is. apart (some_same i j (sym place ∙ is))))
+
+-- nobody is taken out where nobody has the number
+pub nobody_goes : {V : Type 0} (n : ℕ) (es : List (Entry V)) → table.place_of n es ≡ None → es ≡ table.without n es
+nobody_goes n es none = sym (ap (λ (o : Option ℕ). table.without_where o es) none)

@@ -20,6 +20,7 @@ use Rattle.server_table.specs.Table.{Client}
 use Rattle.server_state.specs.declared.client.ClientState.{ClientState}
 use Rattle.server_state.specs.declared.state.ServerCore.{ServerCore}
 use Rattle.server_state.specs.Core.{CourseStands, IsOfClient, StateStands}
+use Rattle.server_state.specs.Places.{HasValueFor}
 use Rattle.server_state.specs.internal.Sealing.{Seals, TellsSealed, after_sealing}
 use Rattle.server_state.proofs.Standing.{Located}
 use Rattle.server_state.proofs.Changed.{client_changed, client_kept, nobody_at, there_at, with_bytes_out, with_state}
@@ -145,3 +146,24 @@ module _ {S : Type 0} (means : S → Peer → Type 0) (before : List Action) (co
         subst (λ x. CourseStands means before (record core { clients = ct }) new (server.sealed_for m inner c x))
         (sym (here_is l.client l.client_there l.here))
         (err_step mid new spent o.peer o.answer (keeps l.client.session inner).failed s.state s.outbox s.told tells)
+
+-- ---- the table of clients
+
+-- another value at the place of a number, and none where nobody has it
+pub value_for : {S : Type 0} (m i : ℕ) (w : ClientState S) (before after : ClientTable (ClientState S)) → table.place_of m (entries_of before) ≡ Some i
+    → entries_of after ≡ table.changed_at i (table.with_value w) (entries_of before) → admitted_by after ≡ admitted_by before → most_of after ≡ most_of before
+    → HasValueFor m before after
+value_for m i w before after place is admitted most = record {
+  change = λ v. w;
+  entries_are = is ∙ sym (ap (λ (o : Option ℕ). table.changed_where o (table.with_value w) (entries_of before)) place);
+  admitted_is = admitted;
+  most_is = most;
+}
+
+pub no_value_for : {S : Type 0} (m : ℕ) (before : ClientTable (ClientState S)) → table.place_of m (entries_of before) ≡ None → HasValueFor m before before
+no_value_for m before none = record {
+  change = λ v. v;
+  entries_are = sym (ap (λ (o : Option ℕ). table.changed_where o (λ e. table.with_value e.value e) (entries_of before)) none);
+  admitted_is = refl;
+  most_is = refl;
+}

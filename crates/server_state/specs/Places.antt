@@ -20,6 +20,13 @@ pub record IsChangedAt {S : Type 0} (core : ServerCore S) (i : ℕ) (f : Entry (
   pub admitted_is : admitted_by ct ≡ admitted_by core.clients
   pub most_is : most_of ct ≡ most_of core.clients
 
+-- another table of clients has another value of the client of this number, if it is here, and all else the same
+pub record HasValueFor {S : Type 0} (n : ℕ) (before after : ClientTable (ClientState S)) : Type 0 where
+  pub change : ClientState S → ClientState S
+  pub entries_are : entries_of after ≡ table.changed_where (table.place_of n (entries_of before)) (λ e. table.with_value (change e.value) e) (entries_of before)
+  pub admitted_is : admitted_by after ≡ admitted_by before
+  pub most_is : most_of after ≡ most_of before
+
 -- The client of a number, which is here, with the entry at this place that stands for it. Where both are changed so that the one stands for
 -- the other still, the entries stand for the clients; and where the client keeps its address in the tunnel, the core for the table.
 pub record IsThere {S : Type 0} (means : S → Peer → Type 0) (core : ServerCore S) (t : Table) (m i : ℕ) : Type 0 where

@@ -2,6 +2,8 @@
 
 ghost use Rattle.std.specs.Prelude.{◌≡◌, ◌≤◌, ◌==◌, ◌++◌, List, true, false};
 ghost use Rattle.vpn_links.specs.Actions.{Action, Holds};
+ghost use Rattle.client_table.specs.Changes.{without};
+ghost use Rattle.client_table.specs.Tables.{Has, admitted_by, entries_of, most_of};
 ghost use Rattle.peer_table.specs.Outboxes.{HasRoom, Uses, actions_of};
 ghost use Rattle.peer_table.specs.Peer.{Peer};
 ghost use Rattle.peer_table.specs.Time.{closings};
@@ -92,6 +94,8 @@ impl<S: ClientSession + Drop> ServerCore<S> {
         ensures mark_stays { self.new.mark ≡ self.old.mark }
         ensures held_stays { self.new.held ≡ self.old.held }
         ensures room_stays { self.old.routes.spare_rows ≤ self.new.routes.spare_rows }
+        ensures gone { Has self.new.clients (without cid.0 (entries_of self.old.clients)) (most_of self.old.clients) (admitted_by self.old.clients) }
+        ensures others { self.new ≡ record self.old { clients = self.new.clients; routes = self.new.routes; pool = self.new.pool } }
     {
         let Some(_) = self.clients.place(cid) else {
             return;

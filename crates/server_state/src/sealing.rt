@@ -11,6 +11,7 @@ ghost use Rattle.server_table.specs.Table.{Client};
 ghost use Rattle.server_state.specs.Core.{CourseStands, IsSound, StateStands};
 ghost use Rattle.client_table.specs.Changes.{place_of};
 ghost use Rattle.client_table.specs.Tables.{entries_of};
+ghost use Rattle.server_state.specs.Places.{HasValueFor};
 ghost use Rattle.server_state.specs.internal.Sealing.{Seals};
 
 use crate::client::ClientState;
@@ -84,6 +85,8 @@ impl<S: ClientSession> ServerCore<S> {
             CourseStands S.stands before self.new out.new (server.sealed_to target.0 inner.now c) }
         ensures sound { IsSound S.goes_on S.count S.since self.new }
         ensures uses { Uses out.old out.new 2 1524 }
+        ensures value { HasValueFor target.0 self.old.clients self.new.clients }
+        ensures others { self.new ≡ record self.old { clients = self.new.clients; bytes_out = self.new.bytes_out } }
     {
         client_table::lending_sets_the_value::<ClientState<S>>();
         let now = self.moment;
@@ -104,6 +107,8 @@ impl<S: ClientSession> ServerCore<S> {
             CourseStands S.stands before self.new out.new (server.sealed_to target.0 inner.now c) }
         ensures sound { IsSound S.goes_on S.count S.since self.new }
         ensures uses { Uses out.old out.new 2 1524 }
+        ensures value { HasValueFor target.0 self.old.clients self.new.clients }
+        ensures others { self.new ≡ record self.old { clients = self.new.clients; bytes_out = self.new.bytes_out } }
     {
         match self.clients.place(target) {
             None => {}

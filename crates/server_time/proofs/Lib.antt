@@ -7,3 +7,6 @@ mod Ready
 mod Skips
 mod Untold
 mod Next
+mod Others
+mod Walk
+mod Ahead

@@ -1,3 +1,4 @@
 pub mod Turns
 pub mod Memory
+pub mod Others
 pub mod internal

@@ -1,6 +1,7 @@
 //! Time passes for a server.
 #![tactic(auto)]
 
+mod clients;
 mod keepalive;
 mod laws;
 mod memory;
@@ -8,6 +9,7 @@ mod pinging;
 mod session;
 mod turn;
 
+pub use clients::tick;
 pub use laws::{absent_numbers_change_nothing, no_counts_are_told, the_next_is_ready};
 pub use memory::take_memory;
 pub use pinging::ping;

@@ -8,6 +8,7 @@ ghost use Rattle.server_table.specs.DataDatagrams as definitions;
 ghost use Rattle.server_table.specs.Table.{Table};
 ghost use Rattle.server_table.specs.Time.{then_pinged};
 ghost use Rattle.server_state.specs.Core.{CoreStands, CourseStands, IsSound};
+ghost use Rattle.server_time.specs.Others.{LeavesOthers};
 ghost use Rattle.server_time.specs.internal.Pings.{is_due};
 
 use crate::keepalive::ping_is_due;
@@ -45,6 +46,7 @@ fn is_due<S: ClientSession>(core: &ServerCore<S>, cid: Cid) -> bool
 }
 
 /// Seals a ping to the client of this number, if it is here and one is due. It takes no memory.
+#[tactic(auto, using(crate::proofs::Others::others_itself, crate::proofs::Others::others_sealed))]
 pub fn ping<S: ClientSession>(core: &mut ServerCore<S>, cid: Cid, out: &mut Outbox)
     requires room { HasRoom out.old 2 1524 }
     requires sound { IsSound S.goes_on S.count S.since core.old }
@@ -52,6 +54,8 @@ pub fn ping<S: ClientSession>(core: &mut ServerCore<S>, cid: Cid, out: &mut Outb
         CourseStands S.stands before core.new out.new (then_pinged cid.0 c) }
     ensures sound { IsSound S.goes_on S.count S.since core.new }
     ensures uses { Uses out.old out.new 2 1524 }
+    ensures turn_stays { core.new.turn ≡ core.old.turn }
+    ensures others { LeavesOthers cid.0 0 core.old core.new }
 {
     if is_due(core, cid) {
         let payload = ping_payload();

@@ -15,6 +15,7 @@ ghost use Rattle.server_table.specs.Time.{ticking_for};
 ghost use Rattle.server_state.specs.Calls.{opens_in};
 ghost use Rattle.server_state.specs.Core.{CourseStands, IsSound};
 ghost use Rattle.server_state.specs.Endings.{IsSoundBut};
+ghost use Rattle.server_time.specs.Others.{LeavesOthers};
 ghost use Rattle.server_time.specs.Turns.{IsNext, IsReadyAt, IsSoundBeforeTurn, MayTakeTurn, MayTick};
 
 use crate::pinging::ping;
@@ -51,6 +52,7 @@ fn tick_at<S: ClientSession>(core: &mut ServerCore<S>, i: usize, to: Addr, out: 
     ensures sound { GoesOnUnlessOver (IsSound S.goes_on S.count S.since core.new) result }
     ensures turn_stays { core.new.turn ≡ core.old.turn }
     ensures uses { (effects bytes : ℕ) → IsReadyAt S.is_ready core.old core.old.turn.0 effects bytes → Uses out.old out.new effects bytes }
+    ensures others { LeavesOthers core.old.turn.0 1 core.old core.new }
 {
     client_table::lending_sets_the_value::<ClientState<S>>();
     server_state::places_tell_of_clients::<S>();
@@ -65,6 +67,7 @@ fn tick_at<S: ClientSession>(core: &mut ServerCore<S>, i: usize, to: Addr, out: 
 }
 
 // The client whose turn it is ends where its session says so.
+#[tactic(auto, using(crate::proofs::Others::others_itself, crate::proofs::Others::others_ended))]
 fn end_if_over<S: ClientSession + Drop>(
     core: &mut ServerCore<S>,
     cid: Cid,
@@ -79,6 +82,8 @@ fn end_if_over<S: ClientSession + Drop>(
         CourseStands S.stands before core.new out.new (endings.turned cid.0 turn c) }
     ensures sound { IsSound S.goes_on S.count S.since core.new }
     ensures uses { Uses out.old out.new 5 39 }
+    ensures turn_stays { core.new.turn ≡ core.old.turn }
+    ensures others { LeavesOthers cid.0 0 core.old core.new }
 {
     match turn {
         Turn::Going => {}
@@ -99,6 +104,8 @@ fn take_turn<S: ClientSession + Drop>(core: &mut ServerCore<S>, i: usize, out: &
         CourseStands S.stands before core.new out.new (definitions.client_ticked core.old.turn.0 c) }
     ensures sound { IsSound S.goes_on S.count S.since core.new }
     ensures uses { (effects bytes : ℕ) → IsReadyAt S.is_ready core.old core.old.turn.0 effects bytes → Uses out.old out.new (effects + 7) (bytes + 1563) }
+    ensures turn_stays { core.new.turn ≡ core.old.turn }
+    ensures others { LeavesOthers core.old.turn.0 1 core.old core.new }
 {
     server_state::places_tell_of_clients::<S>();
     let cid = core.turn;
@@ -110,7 +117,7 @@ fn take_turn<S: ClientSession + Drop>(core: &mut ServerCore<S>, i: usize, out: &
 
 /// Time has passed for the client of this number, if it is here: its session does what is due, which may end
 /// the client, and where none ended it, a ping may be due. It takes no memory. The numbers of all clients that
-/// had their turn in this step are lower.
+/// had their turn in this step are lower. Those behind it are as they were.
 pub fn client_ticked<S: ClientSession + Drop>(core: &mut ServerCore<S>, cid: Cid, out: &mut Outbox)
     requires next { IsNext out.old.staged core.old.turn.0 cid.0 }
     requires ready { MayTakeTurn S.is_ready core.old cid.0 out.old }
@@ -119,6 +126,8 @@ pub fn client_ticked<S: ClientSession + Drop>(core: &mut ServerCore<S>, cid: Cid
         CourseStands S.stands before core.new out.new (definitions.client_ticked cid.0 c) }
     ensures sound { IsSound S.goes_on S.count S.since core.new }
     ensures uses { (effects bytes : ℕ) → IsReadyAt S.is_ready core.old cid.0 effects bytes → Uses out.old out.new (effects + 7) (bytes + 1563) }
+    ensures turn { core.new.turn ≡ cid }
+    ensures others { LeavesOthers cid.0 1 core.old core.new }
 {
     server_state::places_tell_of_clients::<S>();
     core.turn = cid;

@@ -3,6 +3,7 @@ use Rattle.server_table.specs.Endings.{turned}
 use Rattle.server_table.specs.Time.{ticking_for}
 use Rattle.peer_table.specs.Time.{ticked}
 use Rattle.server_time.proofs.Begun.{room_for_ending, room_for_ping, turn_taken, uses_all}
+use Rattle.server_time.proofs.Others.{others_all}
 use Rattle.server_time.proofs.turn.take_turn.Goals as goal
 
 pub end_if_over-requires-clause-room : goal.end_if_over-requires-clause-room
@@ -31,3 +32,8 @@ pub returns-clause-uses : goal.returns-clause-uses
 returns-clause-uses g c effects bytes ready =
     uses_all c.args.out.now c.tick_at-turn.new.out c.end_if_over.new.out c.ping.new.out effects bytes (c.tick_at-turn.ensures.uses effects bytes ready)
     c.end_if_over.ensures.uses c.ping.ensures.uses
+
+pub returns-clause-others : goal.returns-clause-others
+returns-clause-others g c =
+    others_all c.args.core.now.turn.0 c.args.core.now c.tick_at-turn.new.core c.end_if_over.new.core c.ping.new.core c.tick_at-turn.ensures.others c.end_if_over.ensures.others
+    c.ping.ensures.others

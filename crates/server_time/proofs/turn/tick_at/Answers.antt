@@ -7,6 +7,7 @@ use Rattle.server_table.specs.Time.{ticking_for}
 use Rattle.server_state.specs.Core.{CourseStands, IsSound}
 use Rattle.server_state.specs.Places.{IsChangedAt}
 use Rattle.server_time.proofs.Acted.{answered_there, called, counted_there}
+use Rattle.server_time.proofs.Others.{others_ticked}
 use Rattle.server_time.proofs.Sound.{goes_there, is_sound, is_sound_but, unless_over}
 use Rattle.server_time.proofs.turn.tick_at.Goals as goal
 
@@ -62,3 +63,10 @@ tick_client-turn-requires-clause-goes_on g c =
 pub tick_client-turn-requires-clause-later : goal.tick_client-turn-requires-clause-later
 tick_client-turn-requires-clause-later g c =
     (goes_there g.S.ClientSession.goes_on g.S.ClientSession.count g.S.ClientSession.since c.args.core.now c.args.i c.value_at.result.now c.requires.sound.sound c.value_at.ensures.value).1
+
+pub returns-clause-others : goal.returns-clause-others
+returns-clause-others g c =
+    let core = c.args.core.now in
+    let w = c.tick_client-turn.new.client in
+    others_ticked core.turn.0 c.args.i core w (with_value_at core.clients c.args.i w) c.opened_from.result c.requires.place
+    (record { entries_are = c.lending_sets_the_value.ensures core.clients c.args.i w; admitted_is = refl; most_is = refl }) c.opened_from.ensures.few

@@ -1,8 +1,10 @@
-use Rattle.std.proofs.Common.{length, refl, ap, sym, ◌∙◌}
+use Rattle.std.proofs.Common.{List, length, refl, ap, sym, ◌∙◌}
+use Rattle.std.specs.Prelude.{nat_le}
+use Rattle.client_table.specs.declared.key.Key.{Key}
 use Rattle.client_table.specs.Changes.{with_name}
 use Rattle.client_table.specs.Sound.{are_below, rise_from}
 use Rattle.client_table.proofs.Lists.{length_changed}
-use Rattle.client_table.proofs.Rising.{below_changed, rise_changed}
+use Rattle.client_table.proofs.Rising.{below_changed, few_changed, rise_changed}
 use Rattle.client_table.proofs.table.ClientTable.set_name.Goals as goal
 
 pub invariant_of-self : goal.invariant_of-self
@@ -12,5 +14,6 @@ invariant_of-self g c =
     record {
       paired = t.paired ∙ sym (ap length c.change_name.ensures ∙ length_changed c.args.i change t.keys.items);
       rising = ap (rise_from 0 t.admitted) c.change_name.ensures ∙ rise_changed 0 t.admitted t.keys.items c.args.i change (λ k. refl) ∙ t.rising;
+      few = ap (λ (keys : List Key). nat_le (length keys) t.most) c.change_name.ensures ∙ few_changed t.most t.keys.items c.args.i change t.few;
       peers = ap (are_below t.most) c.change_name.ensures ∙ below_changed t.most t.keys.items c.args.i change (λ k. refl) ∙ t.peers;
     }

@@ -2,7 +2,7 @@ use Rattle.std.proofs.Common.{◌+◌, ◌≤◌, refl, sym, subst, ◌∙◌}
 use Rattle.std.specs.List.{AllByRecursion}
 use Rattle.client_table.specs.Tables.{entries_of}
 use Rattle.server_state.specs.Core.{GoesOn}
-use Rattle.server_state.proofs.Ended.{nobody_ends, somebody, somebody_ends, sound_after, value_at}
+use Rattle.server_state.proofs.Ended.{nobody_ends, nobody_goes, somebody, somebody_ends, sound_after, value_at}
 use Rattle.server_state.proofs.state.ServerCore.end.Goals as goal
 
 pub returns-in_default-clause-ended : goal.returns-in_default-clause-ended
@@ -18,6 +18,11 @@ returns-in_default-clause-sound g c h = record {
   timers = h.timers;
   no_counts = h.no_counts;
 }
+
+pub returns-in_default-clause-gone : goal.returns-in_default-clause-gone
+returns-in_default-clause-gone g c =
+    let clients = c.args.self.now.clients in
+    record { entries_are = nobody_goes c.args.cid.0 (entries_of clients) (sym c.place.ensures.place ∙ c.in_default.is); most_is = refl; admitted_is = refl }
 
 pub unreachable-requires : goal.unreachable-requires
 unreachable-requires g c =

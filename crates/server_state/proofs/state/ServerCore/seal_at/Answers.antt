@@ -1,7 +1,7 @@
 use Rattle.std.proofs.Common.{◌≤◌, refl, subst, sym}
 use Rattle.client_table.specs.Tables.{with_value_at}
 use Rattle.server_state.proofs.Changed.{sound_changed}
-use Rattle.server_state.proofs.Sealed.{err_sealed, ok_sealed}
+use Rattle.server_state.proofs.Sealed.{err_sealed, ok_sealed, value_for}
 use Rattle.server_state.proofs.state.ServerCore.seal_at.Goals as goal
 
 pub returns-in-Ok-clause-sealed : goal.returns-in-Ok-clause-sealed
@@ -38,3 +38,15 @@ returns-in-Err-clause-sound g c =
     let w = c.seal.new.self in
     sound_changed g.S.ClientSession.goes_on g.S.ClientSession.count g.S.ClientSession.since core (with_value_at core.clients c.args.i w) c.args.i v w c.requires.sound
     c.value_at.ensures.value c.seal.ensures.goes_on c.seal.ensures.count (λ past. subst (λ n. n ≤ core.moment.0) (sym c.seal.ensures.since) past) (record { entries_are = c.lending_sets_the_value.ensures core.clients c.args.i w; admitted_is = refl; most_is = refl })
+
+pub returns-in-Ok-clause-value : goal.returns-in-Ok-clause-value
+returns-in-Ok-clause-value g c =
+    let clients = c.args.self.now.clients in
+    value_for c.args.target.0 c.args.i c.seal.new.self clients (with_value_at clients c.args.i c.seal.new.self) c.requires.place
+    (c.lending_sets_the_value.ensures clients c.args.i c.seal.new.self) refl refl
+
+pub returns-in-Err-clause-value : goal.returns-in-Err-clause-value
+returns-in-Err-clause-value g c =
+    let clients = c.args.self.now.clients in
+    value_for c.args.target.0 c.args.i c.seal.new.self clients (with_value_at clients c.args.i c.seal.new.self) c.requires.place
+    (c.lending_sets_the_value.ensures clients c.args.i c.seal.new.self) refl refl
