@@ -36,10 +36,10 @@ use Rattle.server_table.specs.Lookups.{client_here, free_peer_id, if_here}
 use Rattle.server_table.specs.Table.{Client, Table, Unasked}
 use Rattle.server_state.specs.declared.client.ClientState.{ClientState}
 use Rattle.server_state.specs.declared.state.ServerCore.{ServerCore}
-use Rattle.server_state.specs.Core.{AreInTurn, CoreStands, CourseStands, FileStands, GoesOn, IsOfClient, IsSound, established_at, with_held}
+use Rattle.server_state.specs.Core.{AreInTurn, CoreStands, CourseStands, FileStands, GoesOn, IsOfClient, IsSound, IsSoundAhead, established_at, with_held}
 use Rattle.server_state.specs.Endings.{IsSoundBut}
 use Rattle.server_state.specs.Standing.{StandFrom}
-use Rattle.server_control.specs.Packets.{IsSoundAhead, packet_of}
+use Rattle.server_control.specs.Packets.{packet_of}
 use Rattle.server_control.specs.internal.Admitting.{HasBegun}
 use Rattle.server_control.specs.internal.Taking.{HasTaken, IsSoundAfter, last_after, went}
 use Rattle.server_control.proofs.First.{began_opens, began_remote, first_quiet}
@@ -77,6 +77,8 @@ reserved_sound goes_on count since core ct same h = record {
   most = subst (λ k. k ≤ 4096) (sym same.most_is) h.most;
   admitted = subst (λ k. k ≤ core.events - 1) (sym same.admitted_is) h.admitted;
   connections = h.connections;
+  timers = h.timers;
+  no_counts = h.no_counts;
 }
 
 -- ---- what holds of the core
@@ -110,6 +112,8 @@ module _ {S : Type 0} (goes_on : S → Type 0) (count since : S → ℕ) (core :
     most = subst (λ k. k ≤ 4096) (sym has.most_is) h.most;
     admitted = admitted_few;
     connections = opened_few;
+    timers = h.timers;
+    no_counts = h.no_counts;
   }
 
   sound_but : table.place_of turn.0 (entries_of core.clients ++ e ∷ []) ≡ Some (length (entries_of core.clients)) → IsSoundBut goes_on count since turn.0 after
@@ -121,6 +125,8 @@ module _ {S : Type 0} (goes_on : S → Type 0) (count since : S → ℕ) (core :
     most = subst (λ k. k ≤ 4096) (sym has.most_is) h.most;
     admitted = admitted_few;
     connections = opened_few;
+    timers = h.timers;
+    no_counts = h.no_counts;
   }
 
   -- the client has taken its first packet

@@ -6,3 +6,4 @@ mod First
 mod Placed
 mod Admitted
 mod Arrived
+mod Early

@@ -15,10 +15,9 @@ use Rattle.peer_table.specs.declared.outcomes.Turn.TheVariants.{Going, Ignored, 
 use Rattle.peer_table.specs.Outboxes.{GoesOnAfter}
 use Rattle.server_state.specs.declared.client.ClientState.{ClientState}
 use Rattle.server_state.specs.declared.state.ServerCore.{ServerCore}
-use Rattle.server_state.specs.Core.{GoesOn, IsSound}
+use Rattle.server_state.specs.Core.{GoesOn, IsSound, IsSoundAhead, StaysTold}
 use Rattle.server_state.specs.Endings.{IsSoundBut}
 use Rattle.server_state.specs.Places.{IsChangedAt}
-use Rattle.server_control.specs.Packets.{IsSoundAhead}
 use Rattle.server_control.specs.internal.Taking.{IsSoundAfter}
 
 pub all_at : {X : Type 0} (P : X → Type 0) (xs : List X) (i : ℕ) (v : X) → AllByRecursion P xs → slice_get xs i ≡ Some v → P v
@@ -68,7 +67,7 @@ one_opened connections events k one counted few = omega (arith, one, counted, fe
 
 into_last : {S : Type 0} {goes_on : S → Type 0} {count since : S → ℕ} {core : ServerCore S} → IsSound goes_on count since core → (last : Option (Cid × ℕ))
     → IsSound goes_on count since (record core { last_taken = last })
-into_last s last = record { sessions = s.sessions; most = s.most; admitted = s.admitted; connections = s.connections }
+into_last s last = record { sessions = s.sessions; most = s.most; admitted = s.admitted; connections = s.connections; timers = s.timers; no_counts = s.no_counts }
 
 module _ {S : Type 0} (goes_on : S → Type 0) (count since : S → ℕ) (core : ServerCore S) (i : ℕ) (v : ClientState S)
     (there : option_map (λ e. e.value) (slice_get (entries_of core.clients) i) ≡ Some v) (counted : 1 ≤ core.events) (h : IsSoundAhead goes_on count since core) where
@@ -93,7 +92,18 @@ module _ {S : Type 0} (goes_on : S → Type 0) (count since : S → ℕ) (core :
       most = subst (λ k. k ≤ 4096) (sym is.most_is) h.most;
       admitted = subst (λ k. k ≤ core.events - 1) (sym is.admitted_is) h.admitted;
       connections = h.connections;
+      timers = h.timers;
+      no_counts = h.no_counts;
     }
+
+    -- the session was told no later moment
+    pub told_kept : since w.session ≡ since v.session → StaysTold since core (record core { clients = ct })
+    told_kept same moment none =
+        let early : Entry (ClientState S) → Type 0 = λ e. since e.value.session ≤ moment in
+        let was : since v.session ≤ moment =
+            value_some (slice_get (entries_of core.clients) i) v (λ u. since u.session ≤ moment) there (λ e at. all_at early (entries_of core.clients) i e none at) in
+        subst (AllByRecursion early) (sym is.entries_are)
+        (all_changed early early (table.with_value w) (entries_of core.clients) i (λ e g. g) none (λ e at. subst (λ n. n ≤ moment) (sym same) was))
 
     module _ (more : count w.session ≤ count v.session + 1) (later : since w.session ≤ core.moment.0) (k : ℕ) (one : k ≤ 1) where
       abbrev after : ServerCore S
@@ -110,6 +120,8 @@ module _ {S : Type 0} (goes_on : S → Type 0) (count since : S → ℕ) (core :
         most = subst (λ k. k ≤ 4096) (sym is.most_is) h.most;
         admitted = admitted_few (admitted_by ct) (admitted_by core.clients) is.admitted_is h.admitted;
         connections = one_opened core.connections core.events k one counted h.connections;
+        timers = h.timers;
+        no_counts = h.no_counts;
       }
 
       module _ (n : ℕ) (place : table.place_of n (entries_of core.clients) ≡ Some i) where
@@ -125,6 +137,8 @@ module _ {S : Type 0} (goes_on : S → Type 0) (count since : S → ℕ) (core :
           most = subst (λ k. k ≤ 4096) (sym is.most_is) h.most;
           admitted = admitted_few (admitted_by ct) (admitted_by core.clients) is.admitted_is h.admitted;
           connections = one_opened core.connections core.events k one counted h.connections;
+          timers = h.timers;
+          no_counts = h.no_counts;
         }
 
     -- a session has answered
@@ -136,15 +150,5 @@ module _ {S : Type 0} (goes_on : S → Type 0) (count since : S → ℕ) (core :
     sound_after (Ok Named) k last goes more later one place = into_last (sound_on more later k one goes) last
     sound_after (Ok Exchange) k last goes more later one place = into_last (sound_on more later k one goes) last
     sound_after (Ok (Over cause)) k last goes more later one place =
-        let s = sound_but more later k one core.turn.0 place in record { sessions = s.sessions; most = s.most; admitted = s.admitted; connections = s.connections }
+        let s = sound_but more later k one core.turn.0 place in record { sessions = s.sessions; most = s.most; admitted = s.admitted; connections = s.connections; timers = s.timers; no_counts = s.no_counts }
     sound_after (Err refused) k last goes more later one place = into_last (sound_on more later k one goes) last
-
--- what holds before an event is counted, holds when it is
-pub sound_counted : {S : Type 0} (goes_on : S → Type 0) (count since : S → ℕ) (core : ServerCore S) → IsSoundAhead goes_on count since core → IsSound goes_on count since core
-sound_counted goes_on count since core h = record {
-  sessions = all_as (GoesOn goes_on count since (core.events - 1 + 1) core.moment.0) (GoesOn goes_on count since (core.events + 1) core.moment.0)
-      (λ e g. record { session = g.session; few = omega (arith, g.few); past = g.past }) (entries_of core.clients) h.sessions;
-  most = h.most;
-  admitted = omega (arith, h.admitted);
-  connections = omega (arith, h.connections);
-}

@@ -22,7 +22,3 @@ packet_of o v = record { packet = opened_packet o; form = control_form v }
 abbrev pub HasBytes : Kind → ℕ → Type 0
 HasBytes (Datagram from bytes) n = n ≤ length bytes
 HasBytes kind n = ⊥
-
--- what holds of every core, before anything is done for an event that counts already
-abbrev pub IsSoundAhead : {S : Type 0} → (S → Type 0) → (S → ℕ) → (S → ℕ) → ServerCore S → Type 0
-IsSoundAhead goes_on count since core = IsSound goes_on count since (record core { events = core.events - 1 })

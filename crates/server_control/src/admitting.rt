@@ -10,8 +10,8 @@ ghost use Rattle.vpn_base.specs.declared.names.Role.TheVariants.{Server};
 ghost use Rattle.tls_crypt.specs.Wrapped.{half, keys_of, wrapped, written_half};
 ghost use Rattle.server_table.specs.ControlDatagrams as server;
 ghost use Rattle.server_table.specs.Courses.{Course};
-ghost use Rattle.server_state.specs.Core.{CourseStands, IsSound};
-ghost use Rattle.server_control.specs.Packets.{HasBytes, IsSoundAhead, packet_of};
+ghost use Rattle.server_state.specs.Core.{CourseStands, IsSound, IsSoundAhead, StaysTold};
+ghost use Rattle.server_control.specs.Packets.{HasBytes, packet_of};
 ghost use Rattle.server_control.specs.internal.Admitting.{HasBegun, state_begun};
 ghost use Rattle.server_control.specs.internal.Taking.{HasTaken, IsSoundAfter};
 
@@ -108,9 +108,6 @@ fn admit_first<S: ClientSession + Drop>(
 ) -> Result<Result<Turn, Refused>, NoMemory>
     requires acks { view.now.acks.count ≤ 8 }
     requires wire { HasBytes kind.now (length view.now.payload.now) }
-    requires window { 1 ≤ core.old.settings.timers.win }
-    requires some_timeout { 1 ≤ core.old.settings.timers.timeout }
-    requires short_timeout { core.old.settings.timers.timeout ≤ 60 }
     requires counted { 1 ≤ core.old.events }
     requires few { core.old.events ≤ 2 ^ 48 }
     requires sound { IsSoundAhead S.goes_on S.count S.since core.old }
@@ -125,6 +122,8 @@ fn admit_first<S: ClientSession + Drop>(
     ensures kept { OnErr result ((before : List Action) (c : Course) → CourseStands S.stands before core.old out.old c →
         CourseStands S.stands before core.new out.new c) }
     ensures sound { MatchResult result (λ answer. IsSoundAfter S.goes_on S.count S.since core.new answer) (λ _. IsSoundAhead S.goes_on S.count S.since core.new) }
+    ensures still { OnErr result (StaysTold S.since core.old core.new) }
+    ensures outbox { OnErr result (Holds out.new out.old.effects out.old.staged) }
     ensures turn { OnOk result (core.new.turn.0 ≡ admitted_by core.old.clients) }
     ensures room { OnOk result (HasRoom out.new 5 39) }
 {
@@ -166,9 +165,6 @@ pub fn admit<S: ClientSession + Drop>(
 ) -> Result<(), NoMemory>
     requires acks { view.now.acks.count ≤ 8 }
     requires wire { HasBytes kind.now (length view.now.payload.now) }
-    requires window { 1 ≤ core.old.settings.timers.win }
-    requires some_timeout { 1 ≤ core.old.settings.timers.timeout }
-    requires short_timeout { core.old.settings.timers.timeout ≤ 60 }
     requires counted { 1 ≤ core.old.events }
     requires few { core.old.events ≤ 2 ^ 48 }
     requires sound { IsSoundAhead S.goes_on S.count S.since core.old }
@@ -183,6 +179,8 @@ pub fn admit<S: ClientSession + Drop>(
     ensures kept { OnErr result ((before : List Action) (c : Course) → CourseStands S.stands before core.old out.old c →
         CourseStands S.stands before core.new out.new c) }
     ensures sound { MatchResult result (λ _. IsSound S.goes_on S.count S.since core.new) (λ _. IsSoundAhead S.goes_on S.count S.since core.new) }
+    ensures still { OnErr result (StaysTold S.since core.old core.new) }
+    ensures outbox { OnErr result (Holds out.new out.old.effects out.old.staged) }
 {
     match admit_first(core, alloc, from, draw, kind, opened, view, out) {
         Err(NoMemory) => Err(NoMemory),

@@ -1,22 +1,23 @@
 //! Control packets that come from the wire.
 
 ghost use Rattle.std.specs.Prelude.{◌≡◌, ◌≤◌, ◌+◌, ◌-◌, ◌^◌, ◌==◌, ◌%◌, ◌∷◌, [], List, Bool, ℕ, drop, length, slice_get, true, false, IsTrue, IfOk, OnOk, OnErr, MatchResult};
-ghost use Rattle.vpn_links.specs.Actions.{Action};
+ghost use Rattle.vpn_links.specs.Actions.{Action, Holds};
 ghost use Rattle.vpn_links.specs.declared.events.Kind.TheVariants.{Datagram};
 ghost use Rattle.opcode_codec.specs.ControlText.{control_of};
 ghost use Rattle.peer_table.specs.Outboxes.{HasRoom};
 ghost use Rattle.tls_crypt.specs.Unwrapping.{unwrapping};
 ghost use Rattle.server_table.specs.ControlDatagrams as server;
-ghost use Rattle.server_table.specs.Courses.{Course};
+ghost use Rattle.server_table.specs.Courses.{Course, outs};
 ghost use Rattle.server_table.specs.Lookups.{by_session};
-ghost use Rattle.server_state.specs.Core.{CourseStands, IsSound};
-ghost use Rattle.server_control.specs.Packets.{HasBytes, IsSoundAhead, opened_packet, packet_of};
+ghost use Rattle.server_table.specs.Runs.{is_refusal};
+ghost use Rattle.server_state.specs.Core.{CourseStands, IsSound, IsSoundAhead, StaysTold};
+ghost use Rattle.server_control.specs.Packets.{HasBytes, opened_packet, packet_of};
 
 use crate::admitting::admit;
 use crate::taking::to_client;
 use opcode_codec::{ControlView, Opcode, read_control};
 use peer_table::ClientSession;
-use server_state::ServerCore;
+use server_state::{ServerCore, a_core_ahead_is_sound};
 use std::alloc::Global;
 use tls_crypt::{Opened, Wrap, Wrapper};
 use vpn_base::{Addr, Draw, NoMemory, Role};
@@ -47,9 +48,6 @@ fn of_nobody<S: ClientSession + Drop>(
 ) -> Result<(), NoMemory>
     requires acks { view.now.acks.count ≤ 8 }
     requires wire { HasBytes kind.now (length view.now.payload.now) }
-    requires window { 1 ≤ core.old.settings.timers.win }
-    requires some_timeout { 1 ≤ core.old.settings.timers.timeout }
-    requires short_timeout { core.old.settings.timers.timeout ≤ 60 }
     requires counted { 1 ≤ core.old.events }
     requires few { core.old.events ≤ 2 ^ 48 }
     requires sound { IsSoundAhead S.goes_on S.count S.since core.old }
@@ -62,7 +60,12 @@ fn of_nobody<S: ClientSession + Drop>(
     ensures kept { OnErr result ((before : List Action) (c : Course) → CourseStands S.stands before core.old out.old c →
         CourseStands S.stands before core.new out.new c) }
     ensures sound { MatchResult result (λ _. IsSound S.goes_on S.count S.since core.new) (λ _. IsSoundAhead S.goes_on S.count S.since core.new) }
+    ensures still { OnErr result (StaysTold S.since core.old core.new) }
+    ensures outbox { OnErr result (Holds out.new out.old.effects out.old.staged) }
+    ensures lacking { OnErr result ((before : List Action) (c : Course) (bytes : List ℕ) (lacks : Bool) → CourseStands S.stands before core.old out.old c → c.effects ≡ [] →
+        is_refusal (outs (server.of_nobody (record { from = from; bytes = bytes; lacks = lacks }) draw.now (packet_of opened.now view.now) c (server.begins_client op (packet_of opened.now view.now)))) ≡ false) }
 {
+    a_core_ahead_is_sound::<S>();
     if !begins_client(op, opened, view) {
         core.report(Note::UnknownSession { sid: opened.sid }, out);
         return Ok(());
@@ -94,9 +97,6 @@ fn find_client<S: ClientSession + Drop>(
 ) -> Result<(), NoMemory>
     requires acks { view.now.acks.count ≤ 8 }
     requires wire { HasBytes kind.now (length view.now.payload.now) }
-    requires window { 1 ≤ core.old.settings.timers.win }
-    requires some_timeout { 1 ≤ core.old.settings.timers.timeout }
-    requires short_timeout { core.old.settings.timers.timeout ≤ 60 }
     requires counted { 1 ≤ core.old.events }
     requires few { core.old.events ≤ 2 ^ 48 }
     requires sound { IsSoundAhead S.goes_on S.count S.since core.old }
@@ -109,6 +109,10 @@ fn find_client<S: ClientSession + Drop>(
     ensures kept { OnErr result ((before : List Action) (c : Course) → CourseStands S.stands before core.old out.old c →
         CourseStands S.stands before core.new out.new c) }
     ensures sound { MatchResult result (λ _. IsSound S.goes_on S.count S.since core.new) (λ _. IsSoundAhead S.goes_on S.count S.since core.new) }
+    ensures still { OnErr result (StaysTold S.since core.old core.new) }
+    ensures outbox { OnErr result (Holds out.new out.old.effects out.old.staged) }
+    ensures lacking { OnErr result ((before : List Action) (c : Course) (bytes : List ℕ) (lacks : Bool) → CourseStands S.stands before core.old out.old c → c.effects ≡ [] →
+        is_refusal (outs (server.control_at (record { from = from; bytes = bytes; lacks = lacks }) draw.now op (packet_of opened.now view.now) c (by_session c.table from opened.now.sid))) ≡ false) }
 {
     match core.by_session(from, opened.sid) {
         None => of_nobody(core, alloc, from, draw, op, kind, opened, view, out),
@@ -132,9 +136,6 @@ fn read_text<S: ClientSession + Drop>(
     out: &mut Outbox,
 ) -> Result<(), NoMemory>
     requires wire { HasBytes kind.now (length opened.now.plain.now) }
-    requires window { 1 ≤ core.old.settings.timers.win }
-    requires some_timeout { 1 ≤ core.old.settings.timers.timeout }
-    requires short_timeout { core.old.settings.timers.timeout ≤ 60 }
     requires counted { 1 ≤ core.old.events }
     requires few { core.old.events ≤ 2 ^ 48 }
     requires sound { IsSoundAhead S.goes_on S.count S.since core.old }
@@ -147,7 +148,12 @@ fn read_text<S: ClientSession + Drop>(
     ensures kept { OnErr result ((before : List Action) (c : Course) → CourseStands S.stands before core.old out.old c →
         CourseStands S.stands before core.new out.new c) }
     ensures sound { MatchResult result (λ _. IsSound S.goes_on S.count S.since core.new) (λ _. IsSoundAhead S.goes_on S.count S.since core.new) }
+    ensures still { OnErr result (StaysTold S.since core.old core.new) }
+    ensures outbox { OnErr result (Holds out.new out.old.effects out.old.staged) }
+    ensures lacking { OnErr result ((before : List Action) (c : Course) (bytes : List ℕ) (lacks : Bool) → first ≡ slice_get bytes 0 → CourseStands S.stands before core.old out.old c → c.effects ≡ [] →
+        is_refusal (outs (server.control_read (record { from = from; bytes = bytes; lacks = lacks }) draw.now op (opened_packet opened.now) c (control_of op opened.now.plain.now))) ≡ false) }
 {
+    a_core_ahead_is_sound::<S>();
     match read_control(opened.plain, op) {
         Err(kind) => {
             core.report(Note::Malformed { kind, first }, out);
@@ -187,9 +193,6 @@ fn unwrap_datagram<S: ClientSession + Drop, W: Wrap>(
     out: &mut Outbox,
 ) -> Result<(), NoMemory>
     requires wire { kind.now ≡ Datagram from datagram.old }
-    requires window { 1 ≤ core.old.settings.timers.win }
-    requires some_timeout { 1 ≤ core.old.settings.timers.timeout }
-    requires short_timeout { core.old.settings.timers.timeout ≤ 60 }
     requires counted { 1 ≤ core.old.events }
     requires few { core.old.events ≤ 2 ^ 48 }
     requires sound { IsSoundAhead S.goes_on S.count S.since core.old }
@@ -202,7 +205,12 @@ fn unwrap_datagram<S: ClientSession + Drop, W: Wrap>(
     ensures kept { OnErr result ((before : List Action) (c : Course) → CourseStands S.stands before core.old out.old c →
         CourseStands S.stands before core.new out.new c) }
     ensures sound { MatchResult result (λ _. IsSound S.goes_on S.count S.since core.new) (λ _. IsSoundAhead S.goes_on S.count S.since core.new) }
+    ensures still { OnErr result (StaysTold S.since core.old core.new) }
+    ensures outbox { OnErr result (Holds out.new out.old.effects out.old.staged) }
+    ensures lacking { OnErr result ((before : List Action) (c : Course) (lacks : Bool) → CourseStands S.stands before core.old out.old c → c.effects ≡ [] →
+        is_refusal (outs (server.control_unwrapped (record { from = from; bytes = datagram.old; lacks = lacks }) draw.now op c (unwrapping (W.unwrapped wrap.now) datagram.old))) ≡ false) }
 {
+    a_core_ahead_is_sound::<S>();
     let first = first_of(datagram);
     match wrap.unwrap_in_place(datagram) {
         Err(_) => {
@@ -237,9 +245,6 @@ pub fn control_arrived<S: ClientSession + Drop>(
     out: &mut Outbox,
 ) -> Result<(), NoMemory>
     requires wire { kind.now ≡ Datagram from datagram.old }
-    requires window { 1 ≤ core.old.settings.timers.win }
-    requires some_timeout { 1 ≤ core.old.settings.timers.timeout }
-    requires short_timeout { core.old.settings.timers.timeout ≤ 60 }
     requires counted { 1 ≤ core.old.events }
     requires few { core.old.events ≤ 2 ^ 48 }
     requires sound { IsSoundAhead S.goes_on S.count S.since core.old }
@@ -252,6 +257,10 @@ pub fn control_arrived<S: ClientSession + Drop>(
     ensures kept { OnErr result ((before : List Action) (c : Course) → CourseStands S.stands before core.old out.old c →
         CourseStands S.stands before core.new out.new c) }
     ensures sound { MatchResult result (λ _. IsSound S.goes_on S.count S.since core.new) (λ _. IsSoundAhead S.goes_on S.count S.since core.new) }
+    ensures still { OnErr result (StaysTold S.since core.old core.new) }
+    ensures outbox { OnErr result (Holds out.new out.old.effects out.old.staged) }
+    ensures lacking { OnErr result ((before : List Action) (c : Course) (lacks : Bool) → CourseStands S.stands before core.old out.old c → c.effects ≡ [] →
+        is_refusal (outs (server.control_arrived (record { from = from; bytes = datagram.old; lacks = lacks }) draw.now op c)) ≡ false) }
 {
     let wrapper = Wrapper::new(&core.key, Role::Server);
     unwrap_datagram(core, alloc, from, draw, op, kind, &wrapper, datagram, out)

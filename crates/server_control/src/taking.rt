@@ -1,7 +1,7 @@
 //! How clients take control packets.
 
 ghost use Rattle.std.specs.Prelude.{◌≡◌, ◌<◌, ◌≤◌, ◌+◌, ◌-◌, ◌^◌, ◌∷◌, List, drop, length, min, slice_get, option_map, is_some, Some, IfOk, OnOk, OnErr, MatchResult};
-ghost use Rattle.vpn_links.specs.Actions.{Action};
+ghost use Rattle.vpn_links.specs.Actions.{Action, Holds};
 ghost use Rattle.client_table.specs.Changes.{place_of};
 ghost use Rattle.client_table.specs.Tables.{entries_of};
 ghost use Rattle.peer_table.specs.ControlPackets.{control_came};
@@ -12,14 +12,14 @@ ghost use Rattle.server_table.specs.Courses.{Course};
 ghost use Rattle.server_table.specs.Lookups.{client_here};
 ghost use Rattle.server_table.specs.Table.{Client};
 ghost use Rattle.server_state.specs.Calls.{opens_in};
-ghost use Rattle.server_state.specs.Core.{CourseStands, IsSound};
-ghost use Rattle.server_control.specs.Packets.{HasBytes, IsSoundAhead, packet_of};
+ghost use Rattle.server_state.specs.Core.{CourseStands, IsSound, IsSoundAhead, StaysTold};
+ghost use Rattle.server_control.specs.Packets.{HasBytes, packet_of};
 ghost use Rattle.server_control.specs.internal.Taking.{HasTaken, IsSoundAfter, heard_after, last_after};
 
 use crate::telling::tell;
 use opcode_codec::ControlView;
 use peer_table::{ClientSession, Refused, Turn};
-use server_state::{ClientState, ServerCore, count_opened};
+use server_state::{ClientState, ServerCore, a_core_ahead_is_sound, count_opened};
 use tls_crypt::Opened;
 use vpn_base::{Addr, Cid, Conn, Moment, NoMemory};
 use vpn_links::{Kind, Outbox};
@@ -83,6 +83,8 @@ pub(crate) fn take<S: ClientSession>(
     ensures count { S.count client.new.session ≤ S.count client.old.session + 1 }
     ensures since { S.since client.new.session ≤ now.0 }
     ensures same_count { OnErr result (S.count client.new.session ≡ S.count client.old.session) }
+    ensures outbox { OnErr result (Holds out.new out.old.effects out.old.staged) }
+    ensures same_since { OnErr result (S.since client.new.session ≡ S.since client.old.session) }
     ensures room { OnOk result (HasRoom out.new 5 39) }
 {
     let established = client.established.is_some();
@@ -94,7 +96,7 @@ pub(crate) fn take<S: ClientSession>(
         .session
         .on_control(opened, view, to, next_conn, established, now, out)
     {
-        Err(NoMemory) => Err(NoMemory),
+        Err(_) => unreachable!(),
         Ok(Ok(turn)) => {
             client.heard = now;
             Ok(Ok(turn))
@@ -162,6 +164,8 @@ fn take_at<S: ClientSession>(
     ensures kept { OnErr result ((before : List Action) (c : Course) → CourseStands S.stands before core.old out.old c →
         CourseStands S.stands before core.new out.new c) }
     ensures sound { MatchResult result (λ answer. IsSoundAfter S.goes_on S.count S.since core.new answer) (λ _. IsSoundAhead S.goes_on S.count S.since core.new) }
+    ensures still { OnErr result (StaysTold S.since core.old core.new) }
+    ensures outbox { OnErr result (Holds out.new out.old.effects out.old.staged) }
     ensures turn { core.new.turn ≡ core.old.turn }
     ensures room { OnOk result (HasRoom out.new 5 39) }
 {
@@ -213,7 +217,10 @@ pub fn to_client<S: ClientSession + Drop>(
     ensures kept { OnErr result ((before : List Action) (c : Course) → CourseStands S.stands before core.old out.old c →
         CourseStands S.stands before core.new out.new c) }
     ensures sound { MatchResult result (λ _. IsSound S.goes_on S.count S.since core.new) (λ _. IsSoundAhead S.goes_on S.count S.since core.new) }
+    ensures still { OnErr result (StaysTold S.since core.old core.new) }
+    ensures outbox { OnErr result (Holds out.new out.old.effects out.old.staged) }
 {
+    a_core_ahead_is_sound::<S>();
     server_state::places_tell_of_clients::<S>();
     let Some(i) = core.clients.place(core.turn) else {
         return Ok(());

@@ -14,8 +14,7 @@ use Rattle.server_table.specs.Step.{course_begun, halted, line_came, line_said, 
 use Rattle.server_table.specs.Table.{Table}
 use Rattle.server_state.specs.declared.client.ClientState.{ClientState}
 use Rattle.server_state.specs.declared.state.ServerCore.{ServerCore}
-use Rattle.server_state.specs.Core.{CoreStands, CourseStands, GoesOn, IsSound}
-use Rattle.server_core.specs.Begun.{IsSoundAhead}
+use Rattle.server_state.specs.Core.{CoreStands, CourseStands, GoesOn, IsSound, IsSoundAhead}
 
 module _ {S : Type 0} (means : S → Peer → Type 0) (before : List Action) (core : ServerCore S) where
   -- one effect more
@@ -116,4 +115,6 @@ sound_ahead {S = S} goes_on count since core h few moment later turn =
       most = h.most;
       admitted = h.admitted;
       connections = h.connections;
+      timers = h.timers;
+      no_counts = h.no_counts;
     })

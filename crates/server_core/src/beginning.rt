@@ -7,8 +7,7 @@ ghost use Rattle.peer_table.specs.Outboxes.{HasRoom, Uses};
 ghost use Rattle.server_table.specs.Courses.{Course};
 ghost use Rattle.server_table.specs.Step as definitions;
 ghost use Rattle.server_table.specs.Table.{Table};
-ghost use Rattle.server_state.specs.Core.{CoreStands, CourseStands, IsSound};
-ghost use Rattle.server_core.specs.Begun.{IsSoundAhead};
+ghost use Rattle.server_state.specs.Core.{CoreStands, CourseStands, IsSound, IsSoundAhead};
 
 use peer_table::ClientSession;
 use server_state::{ServerCore, put};

@@ -78,6 +78,8 @@ key_sound goes_on count since core ct f o has sound = record {
   most = subst (λ k. k ≤ 4096) (sym has.most_is) sound.most;
   admitted = subst (λ k. k ≤ core.events) (sym has.admitted_is) sound.admitted;
   connections = sound.connections;
+  timers = sound.timers;
+  no_counts = sound.no_counts;
 }
   where
     at : (o : Option ℕ) → AllByRecursion (GoesOn goes_on count since (core.events + 1) core.moment.0) (table.changed_where o (table.with_key f) (entries_of core.clients))

@@ -15,8 +15,8 @@ use server_state::ServerCore;
 use vpn_base::{Addr, Cid};
 use vpn_links::{Note, Outbox};
 
-// Copies a datagram to the front of the buffer.
-fn copy_in(bytes: &[u8], buffer: &mut [u8])
+/// Copies a datagram to the front of the buffer.
+pub fn copy_in(bytes: &[u8], buffer: &mut [u8])
     requires { length bytes.now ≤ length buffer.old }
     ensures front { take (length bytes.now) buffer.new ≡ bytes.now }
     ensures length { length buffer.new ≡ length buffer.old }

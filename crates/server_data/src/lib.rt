@@ -7,7 +7,7 @@ mod moving;
 mod opening;
 mod passing;
 
-pub use arriving::data_came;
+pub use arriving::{copy_in, data_came};
 pub use hosts::learn;
 pub use moving::follow;
 pub use passing::carry;

@@ -174,6 +174,8 @@ module _ {S : Type 0} (core : ServerCore S) (n i : ℕ) (v w : ClientState S) (c
     most = subst (λ k. k ≤ 4096) (sym is.most_is) h.most;
     admitted = subst (λ k. k ≤ core.events) (sym is.admitted_is) h.admitted;
     connections = h.connections;
+    timers = h.timers;
+    no_counts = h.no_counts;
   }
 
 some_mapped : {A B : Type 0} (f : A → B) (o : Option A) → is_some (option_map f o) ≡ is_some o

@@ -45,6 +45,8 @@ sound_but goes_on count since n core h = record {
   most = h.most;
   admitted = h.admitted;
   connections = h.connections;
+  timers = h.timers;
+  no_counts = h.no_counts;
 }
 
 goes_for : {S : Type 0} (goes_on : S → Type 0) (o : Option (Entry (ClientState S))) (v : ClientState S) → ((e : Entry (ClientState S)) → o ≡ Some e → goes_on e.value.session)

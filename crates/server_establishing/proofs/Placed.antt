@@ -200,6 +200,8 @@ module _ {S : Type 0} (means : S → Peer → Type 0) (core : ServerCore S) (m i
     most = subst (λ k. k ≤ 4096) (sym most) h.most;
     admitted = subst (λ k. k ≤ core.events) (sym admitted) h.admitted;
     connections = h.connections;
+    timers = h.timers;
+    no_counts = h.no_counts;
   }
 
   -- what two changes one behind the other come to
@@ -236,4 +238,6 @@ sound_but goes_on count since n core h = record {
   most = h.most;
   admitted = h.admitted;
   connections = h.connections;
+  timers = h.timers;
+  no_counts = h.no_counts;
 }

@@ -187,4 +187,6 @@ sound_changed goes_on count since core ct i v w sound there goes same later is =
   most = subst (λ k. k ≤ 4096) (sym is.most_is) sound.most;
   admitted = subst (λ k. k ≤ core.events) (sym is.admitted_is) sound.admitted;
   connections = sound.connections;
+  timers = sound.timers;
+  no_counts = sound.no_counts;
 }

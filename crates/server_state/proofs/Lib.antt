@@ -10,3 +10,4 @@ mod Acted
 mod Counted
 mod Comings
 mod Made
+mod Ahead

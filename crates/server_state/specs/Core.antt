@@ -1,8 +1,9 @@
 -- For which tables a core stands, and how far a step of it has come.
-use Rattle.std.specs.Prelude.{◌≡◌, ℕ, ◌+◌, ◌*◌, ◌^◌, ◌≤◌, ◌<◌, List, ◌∷◌, ◌++◌, length, map, filter_map, option_map, Option, Some, None}
+use Rattle.std.specs.Prelude.{◌≡◌, ℕ, ◌+◌, ◌-◌, ◌*◌, ◌^◌, ◌≤◌, ◌<◌, List, ◌∷◌, ◌++◌, length, map, filter_map, option_map, Option, Some, None}
 use Rattle.std.specs.List.{AllByRecursion}
 use Rattle.vpn_base.specs.declared.address.Ip4.{Ip4}
 use Rattle.vpn_base.specs.declared.names.Moment.{Moment}
+use Rattle.vpn_base.specs.declared.names.Timers.{Timers}
 use Rattle.vpn_links.specs.Actions.{Action, Contents, Holds}
 use Rattle.address_pool.specs.Holds as pool
 use Rattle.route_table.specs.Learned.{table_of}
@@ -110,6 +111,12 @@ pub record GoesOn {S : Type 0} (goes_on : S → Type 0) (count since : S → ℕ
   pub few : count e.value.session ≤ most
   pub past : since e.value.session ≤ moment
 
+-- the timers are those that a session may have
+pub record AreTimersFor (timers : Timers) : Type 0 where
+  pub window : 1 ≤ timers.win
+  pub some_timeout : 1 ≤ timers.timeout
+  pub short_timeout : timers.timeout ≤ 60
+
 -- Every session goes on. An event begins at most one key session of a client, and two where it is admitted; it opens at most one
 -- connection of each client.
 pub record IsSound {S : Type 0} (goes_on : S → Type 0) (count since : S → ℕ) (core : ServerCore S) : Type 0 where
@@ -117,3 +124,17 @@ pub record IsSound {S : Type 0} (goes_on : S → Type 0) (count since : S → �
   pub most : most_of core.clients ≤ 4096
   pub admitted : admitted_by core.clients ≤ core.events
   pub connections : core.connections ≤ 2 ^ 13 * core.events
+  pub timers : AreTimersFor core.settings.timers
+  pub no_counts : core.count_interval ≡ 0
+
+-- no session was told a moment behind this one
+abbrev pub NoneIsLater : {S : Type 0} → (S → ℕ) → ℕ → ServerCore S → Type 0
+NoneIsLater since moment core = AllByRecursion (λ (e : Entry (ClientState _)). since e.value.session ≤ moment) (entries_of core.clients)
+
+-- no session was told a later moment meanwhile
+abbrev pub StaysTold : {S : Type 0} → (S → ℕ) → ServerCore S → ServerCore S → Type 0
+StaysTold since before after = (moment : ℕ) → NoneIsLater since moment before → NoneIsLater since moment after
+
+-- what holds of every core, before anything is done for an event that counts already
+abbrev pub IsSoundAhead : {S : Type 0} → (S → Type 0) → (S → ℕ) → (S → ℕ) → ServerCore S → Type 0
+IsSoundAhead goes_on count since core = IsSound goes_on count since (record core { events = core.events - 1 })

@@ -11,7 +11,7 @@ use Rattle.client_table.specs.Tables.{admitted_by, entries_of, most_of}
 use Rattle.vpn_links.specs.Actions.{Datagram}
 use Rattle.server_state.specs.declared.client.ClientState.{ClientState}
 use Rattle.server_state.specs.declared.state.ServerCore.{ServerCore}
-use Rattle.server_state.specs.Core.{GoesOn}
+use Rattle.server_state.specs.Core.{AreTimersFor, GoesOn}
 
 -- What holds of every core, but that the session of the client of this number need not go on: it ends now.
 pub record IsSoundBut {S : Type 0} (goes_on : S → Type 0) (count since : S → ℕ) (n : ℕ) (core : ServerCore S) : Type 0 where
@@ -20,6 +20,8 @@ pub record IsSoundBut {S : Type 0} (goes_on : S → Type 0) (count since : S →
   pub most : most_of core.clients ≤ 4096
   pub admitted : admitted_by core.clients ≤ core.events
   pub connections : core.connections ≤ 2 ^ 13 * core.events
+  pub timers : AreTimersFor core.settings.timers
+  pub no_counts : core.count_interval ≡ 0
 
 -- the control datagrams that are staged, without those of a client, whose turn it is or not
 abbrev pub left_out : Bool → ℕ → List Datagram → List Datagram

@@ -18,7 +18,7 @@ ghost use Rattle.peer_table.specs.declared.outcomes.Refused.{Refused};
 ghost use Rattle.peer_table.specs.declared.outcomes.Turn.{Turn};
 ghost use Rattle.server_table.specs.Courses.{Course, acted};
 ghost use Rattle.server_state.specs.Calls.{HasCalled, opens_in};
-ghost use Rattle.server_state.specs.Core.{CoreStands, CourseStands, IsOfClient, IsSound};
+ghost use Rattle.server_state.specs.Core.{CoreStands, CourseStands, IsOfClient, IsSound, IsSoundAhead};
 ghost use Rattle.client_table.specs.Entries.{Entry};
 ghost use Rattle.peer_table.specs.Places.{changed_at};
 ghost use Rattle.server_state.specs.Standing.{StandFrom};
@@ -79,4 +79,10 @@ pub fn clients_come_and_go_alike<S: ClientSession>()
         x.is_here ≡ true → StandFrom (IsOfClient S.stands) (entries_of core.clients ++ e ∷ []) 0 (t.clients ++ x ∷ []) }
     ensures goes { (core : ServerCore S) (t : Table) (m : ℕ) (g : Client → Client) → CoreStands S.stands core t → ((y : Client) → (g y).is_here ≡ false) →
         StandFrom (IsOfClient S.stands) (without m (entries_of core.clients)) 0 (changed_at m g t.clients) }
+{}
+
+/// What holds before an event is counted holds when it is.
+#[tactic(auto, using(crate::proofs::Ahead::sound_counted))]
+pub fn a_core_ahead_is_sound<S: ClientSession>()
+    ensures { (core : ServerCore S) → IsSoundAhead S.goes_on S.count S.since core → IsSound S.goes_on S.count S.since core }
 {}

@@ -20,8 +20,8 @@ pub use calls::count_opened;
 pub use client::{ClientFile, ClientState};
 pub use effects::put;
 pub use laws::{
-    a_changed_core_is_sound, calls_are_put_into_courses, clients_are_found_alike,
-    clients_come_and_go_alike, places_tell_of_clients,
+    a_changed_core_is_sound, a_core_ahead_is_sound, calls_are_put_into_courses,
+    clients_are_found_alike, clients_come_and_go_alike, places_tell_of_clients,
 };
 pub use packet::Packet;
 pub use queue::DeviceQueue;

@@ -73,6 +73,8 @@ module _ {S : Type 0} (goes_on : S → Type 0) (count since : S → ℕ) (core :
     most = subst (λ m. m ≤ 4096) (sym is.most_is) h.sound.most;
     admitted = subst (λ m. m ≤ core.events) (sym is.admitted_is) h.sound.admitted;
     connections = connections;
+    timers = h.sound.timers;
+    no_counts = h.sound.no_counts;
   }
 
   other : (j : ℕ) (e : Entry (ClientState S)) → slice_get (entries_of ct) j ≡ Some e → (place_of n (entries_of ct) ≡ Some j → ⊥)
@@ -91,6 +93,8 @@ module _ {S : Type 0} (goes_on : S → Type 0) (count since : S → ℕ) (core :
     most = subst (λ m. m ≤ 4096) (sym is.most_is) h.sound.most;
     admitted = subst (λ m. m ≤ core.events) (sym is.admitted_is) h.sound.admitted;
     connections = connections;
+    timers = h.sound.timers;
+    no_counts = h.sound.no_counts;
   }
 
 -- what holds of a session that is there

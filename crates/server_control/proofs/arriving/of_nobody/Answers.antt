@@ -2,7 +2,6 @@ use Rattle.std.proofs.Common.{sym, ◌∙◌}
 use Rattle.server_table.specs.ControlDatagrams as server
 use Rattle.server_control.specs.Packets.{packet_of}
 use Rattle.server_control.proofs.Arrived.{is_zero, not_zero, on_ok, when_admitted, when_full, when_unwrapped}
-use Rattle.server_control.proofs.Sound.{sound_counted}
 use Rattle.server_control.proofs.arriving.of_nobody.Goals as goal
 
 pub returns-then-not-has_room-clause-nobody : goal.returns-then-not-has_room-clause-nobody
@@ -13,9 +12,6 @@ returns-then-not-has_room-clause-nobody g c before course bytes lacks h =
     (server.begins_client c.args.op r) (◌∙◌ {a = server.begins_client c.args.op r} (sym c.begins_client.ensures.begins) c.if-not-begins_client.false) (sym c.has_room.ensures.room ∙ c.if-not-has_room.true)
     (c.report-then-not-has_room.ensures.reported before course h)
 
-pub returns-then-not-has_room-clause-sound : goal.returns-then-not-has_room-clause-sound
-returns-then-not-has_room-clause-sound g c = sound_counted g.S.ClientSession.goes_on g.S.ClientSession.count g.S.ClientSession.since c.args.core.now c.requires.sound
-
 pub returns-then-opened-eq0-clause-nobody : goal.returns-then-opened-eq0-clause-nobody
 returns-then-opened-eq0-clause-nobody g c before course bytes lacks h =
     let core = c.args.core.now in
@@ -23,9 +19,6 @@ returns-then-opened-eq0-clause-nobody g c before course bytes lacks h =
     when_unwrapped g.S.ClientSession.stands before core core c.report-then-opened-eq0.new.out course h.table (record { from = c.args.from; bytes = bytes; lacks = lacks }) c.args.draw.now r
     (server.begins_client c.args.op r) (◌∙◌ {a = server.begins_client c.args.op r} (sym c.begins_client.ensures.begins) c.if-not-begins_client.false) (sym c.has_room.ensures.room ∙ c.if-not-has_room.false)
     (is_zero c.args.opened.now.id c.if-opened-eq0.true) (c.report-then-opened-eq0.ensures.reported before course h)
-
-pub returns-then-opened-eq0-clause-sound : goal.returns-then-opened-eq0-clause-sound
-returns-then-opened-eq0-clause-sound g c = sound_counted g.S.ClientSession.goes_on g.S.ClientSession.count g.S.ClientSession.since c.args.core.now c.requires.sound
 
 pub returns-clause-nobody : goal.returns-clause-nobody
 returns-clause-nobody g c =

@@ -4,16 +4,12 @@ use Rattle.server_table.specs.ControlDatagrams as server
 use Rattle.server_state.specs.Core.{CourseStands}
 use Rattle.server_control.specs.Packets.{opened_packet}
 use Rattle.server_control.proofs.Arrived.{fewer, on_ok, payload_fits}
-use Rattle.server_control.proofs.Sound.{sound_counted}
 use Rattle.server_control.proofs.arriving.read_text.Goals as goal
 
 pub find_client-requires-clause-wire : goal.find_client-requires-clause-wire
 find_client-requires-clause-wire g c =
     fewer c.args.kind.now (length c.in-Ok.view.payload.now) (length c.args.opened.now.plain.now)
     (payload_fits (control_form c.in-Ok.view) c.in-Ok.ensures.found.rest c.args.opened.now.plain.now c.in-Ok.ensures.found.spelled) c.requires.wire
-
-pub returns-in-Err-clause-sound : goal.returns-in-Err-clause-sound
-returns-in-Err-clause-sound g c = sound_counted g.S.ClientSession.goes_on g.S.ClientSession.count g.S.ClientSession.since c.args.core.now c.requires.sound
 
 pub returns-in-Ok-clause-read : goal.returns-in-Ok-clause-read
 returns-in-Ok-clause-read g c =

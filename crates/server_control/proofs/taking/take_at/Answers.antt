@@ -2,7 +2,7 @@ use Rattle.std.proofs.Common.{◌≡◌, ◌≤◌, drop, length, min, refl, sym
 use Rattle.std.specs.Prelude.{unwrap_or}
 use Rattle.client_table.specs.Tables.{with_value_at}
 use Rattle.server_state.specs.Calls.{opens_in}
-use Rattle.server_control.proofs.Sound.{sound_after, sound_kept}
+use Rattle.server_control.proofs.Sound.{sound_after, sound_kept, told_kept}
 use Rattle.server_control.proofs.Taken.{core_kept, has_taken}
 use Rattle.server_control.proofs.taking.take_at.Goals as goal
 
@@ -24,6 +24,15 @@ returns-in-Err-clause-sound g c =
     sound_kept g.S.ClientSession.goes_on g.S.ClientSession.count g.S.ClientSession.since core c.args.i v c.value_at.ensures.value c.requires.counted c.requires.sound w
     (with_value_at core.clients c.args.i w) (record { entries_are = c.lending_sets_the_value.ensures core.clients c.args.i w; admitted_is = refl; most_is = refl })
     c.in-Err.ensures.goes_on c.in-Err.ensures.same_count c.take.ensures.since
+
+pub returns-in-Err-clause-still : goal.returns-in-Err-clause-still
+returns-in-Err-clause-still g c =
+    let core = c.args.core.now in
+    let v = c.value_at.result.now in
+    let w = c.take.new.client in
+    told_kept g.S.ClientSession.goes_on g.S.ClientSession.count g.S.ClientSession.since core c.args.i v c.value_at.ensures.value c.requires.counted c.requires.sound w
+    (with_value_at core.clients c.args.i w) (record { entries_are = c.lending_sets_the_value.ensures core.clients c.args.i w; admitted_is = refl; most_is = refl })
+    c.in-Err.ensures.same_since
 
 pub returns-in-Ok-clause-taken : goal.returns-in-Ok-clause-taken
 returns-in-Ok-clause-taken g c before course y h at =

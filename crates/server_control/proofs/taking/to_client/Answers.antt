@@ -1,7 +1,6 @@
 use Rattle.std.proofs.Common.{ap, sym, ◌∙◌}
 use Rattle.vpn_base.specs.declared.names.Cid.{Cid}
 use Rattle.server_control.specs.Packets.{packet_of}
-use Rattle.server_control.proofs.Sound.{sound_counted}
 use Rattle.server_control.proofs.Taken.{nobody_takes, told_in_all}
 use Rattle.server_control.proofs.taking.to_client.Goals as goal
 
@@ -10,9 +9,6 @@ returns-in_default-clause-taken g c before course h =
     let core = c.args.core.now in
     nobody_takes g.S.ClientSession.stands before core c.args.out.now core.turn.0 (packet_of c.args.opened.now c.args.view.now) course
     (c.places_tell_of_clients.ensures.nobody core course.table core.turn.0 h.table (sym c.place.ensures.place ∙ c.in_default.is)) h
-
-pub returns-in_default-clause-sound : goal.returns-in_default-clause-sound
-returns-in_default-clause-sound g c = sound_counted g.S.ClientSession.goes_on g.S.ClientSession.count g.S.ClientSession.since c.args.core.now c.requires.sound
 
 pub returns-in-Ok-clause-taken : goal.returns-in-Ok-clause-taken
 returns-in-Ok-clause-taken g c before course h =

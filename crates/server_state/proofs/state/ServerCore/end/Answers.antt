@@ -15,6 +15,8 @@ returns-in_default-clause-sound g c h = record {
   most = h.most;
   admitted = h.admitted;
   connections = h.connections;
+  timers = h.timers;
+  no_counts = h.no_counts;
 }
 
 pub unreachable-requires : goal.unreachable-requires
@@ -39,4 +41,6 @@ returns-clause-sound g c h = record {
   most = subst (λ n. n ≤ 4096) (sym c.remove.ensures.removed.most_is) h.most;
   admitted = subst (λ n. n ≤ c.args.self.now.events) (sym c.remove.ensures.removed.admitted_is) h.admitted;
   connections = h.connections;
+  timers = h.timers;
+  no_counts = h.no_counts;
 }
