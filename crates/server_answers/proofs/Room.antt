@@ -43,7 +43,7 @@ first_fits b c e left many is = omega (arith, many, is)
 bytes_fit : (a b c d : ℕ) → b ≡ c + d → a ≤ c → d + a ≤ b
 bytes_fit a b c d is le = omega (arith, is, le)
 
-first_bytes : (b c d : ℕ) → b ≡ c + d → d ≤ b
+first_bytes : (b c d : ℕ) → b ≡ c + d → 0 + d ≤ b
 first_bytes b c d is = omega (arith, is)
 
 -- ---- outboxes
