@@ -1,16 +1,17 @@
 //! What a client's session tells of itself.
 
-ghost use Rattle.std.specs.Prelude.{◌≡◌, List, Some, is_some};
+ghost use Rattle.std.specs.Prelude.{◌≡◌, ◌<◌, ◌-◌, ◌^◌, List, Some, is_some};
 ghost use Rattle.std.specs.Option.{option_copied};
 ghost use Rattle.peer_table.specs.EngineAnswers.{open_with};
 ghost use Rattle.peer_table.specs.Exchange.{cipher_of, first_conn};
-ghost use Rattle.peer_table.specs.Naming.{place, place_numbered};
+ghost use Rattle.peer_table.specs.KeySessions.{live_with, usable_with};
+ghost use Rattle.peer_table.specs.Naming.{number_of, place, place_numbered};
 ghost use Rattle.peer_table.specs.Peer.{Peer};
-ghost use Rattle.peer_session.specs.Standing.{PeerStands};
+ghost use Rattle.peer_session.specs.Standing.{PeerStands, count};
 
 use crate::session::PeerSession;
 use tls_crypt::Wrap;
-use vpn_base::{Cipher, Conn, Place, Sid};
+use vpn_base::{Cipher, Conn, Moment, Place, Sid};
 
 impl<W: Wrap + Drop> PeerSession<W> {
     /// The client's common name; None exactly before it is known.
@@ -75,6 +76,27 @@ impl<W: Wrap + Drop> PeerSession<W> {
         match self.slots.open_with_kid(kid) {
             None => None,
             Some(number) => self.place_numbered(number),
+        }
+    }
+
+    /// The number of the usable key session with this key id, to which a data packet goes, if there is one.
+    #[tactic(auto, unfolding(crate::specs::Standing::PeerStands))]
+    pub fn data_session(&self, kid: u8, now: Moment) -> Option<u64>
+        ensures { (p : Peer) → PeerStands W.wrapped self.now p → result ≡ usable_with p.timers now.0 p.sessions kid }
+    {
+        self.slots.usable(kid, now, self.timers.tran)
+    }
+
+    /// The number of the live key session with this key id, to which a control packet goes, or of the next one
+    /// where no live one has it.
+    #[tactic(auto, unfolding(crate::specs::Standing::PeerStands, crate::specs::Standing::count))]
+    pub fn control_session(&self, kid: u8, now: Moment) -> u64
+        requires few { count self.now < 2 ^ 64 - 1 }
+        ensures { (p : Peer) → PeerStands W.wrapped self.now p → result ≡ number_of p (live_with p.timers now.0 p.sessions kid) }
+    {
+        match self.slots.live(kid, now, self.timers.tran) {
+            None => self.slots.newest().number + 1,
+            Some(number) => number,
         }
     }
 

@@ -181,3 +181,8 @@ first_conn p = conn_of (slice_get p.sessions 0)
 abbrev pub most_unread : List Session → ℕ
 most_unread [] = 0
 most_unread (s ∷ sessions) = if s.is_open then max (length (unread s)) (most_unread sessions) else most_unread sessions
+
+-- how many plain text bytes all open sessions together have not read
+abbrev pub all_unread : List Session → ℕ
+all_unread [] = 0
+all_unread (s ∷ sessions) = if s.is_open then length (unread s) + all_unread sessions else all_unread sessions

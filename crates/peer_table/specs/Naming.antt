@@ -1,5 +1,5 @@
 -- How a key session is told apart from all others, for those who look at both ends.
-use Rattle.std.specs.Prelude.{ℕ, Option, Some, None, slice_get}
+use Rattle.std.specs.Prelude.{ℕ, Option, Some, None, length, slice_get}
 use Rattle.vpn_base.specs.declared.names.Place.{Place}
 use Rattle.peer_table.specs.KeySessions.{Session, open_numbers, session_at, with_kid}
 use Rattle.peer_table.specs.Peer.{Peer}
@@ -20,3 +20,8 @@ place_numbered n p = place_at p (Some n) (slice_get p.sessions n)
 -- the place of the open session with this key id
 unfoldable pub place : ℕ → Peer → Option Place
 place kid p = place_at p (with_kid kid (open_numbers p.sessions)) (session_at p.sessions (with_kid kid (open_numbers p.sessions)))
+
+-- the number of the session to which a control packet goes that is taken: the live one with its key id, or the next one
+abbrev pub number_of : Peer → Option ℕ → ℕ
+number_of p None = length p.sessions
+number_of p (Some n) = n

@@ -1,6 +1,6 @@
 //! A client's session, as a core knows it.
 
-ghost use Rattle.std.specs.Prelude.{◌≡◌, ◌≤◌, ◌<◌, ◌+◌, ◌-◌, ◌^◌, ℕ, List, length, take, IfOk, IsOk, is_ok, is_some, Bool, MatchResult, OnOk, OnErr, ◌++◌};
+ghost use Rattle.std.specs.Prelude.{◌≡◌, ◌≤◌, ◌<◌, ◌+◌, ◌-◌, ◌^◌, ℕ, List, length, take, IfOk, IfSome, IfNone, IsOk, is_ok, is_some, Bool, MatchResult, OnOk, OnErr, ◌++◌};
 ghost use Rattle.std.specs.Option.{option_map, option_copied};
 ghost use Rattle.vpn_base.specs.declared.address.Addr.{Addr};
 ghost use Rattle.vpn_base.specs.declared.names.Cid.{Cid};
@@ -13,8 +13,9 @@ ghost use Rattle.peer_table.specs.Peer.{Peer, began};
 ghost use Rattle.peer_table.specs.ControlPackets.{control_came};
 ghost use Rattle.peer_table.specs.DataPackets.{data_came, sealed_to};
 ghost use Rattle.peer_table.specs.EngineAnswers.{engine_came, open_with};
-ghost use Rattle.peer_table.specs.Exchange.{after_message, first_conn, cipher_ahead, cipher_of, exchanged, most_unread, next_message};
-ghost use Rattle.peer_table.specs.Naming.{place};
+ghost use Rattle.peer_table.specs.Exchange.{after_message, all_unread, first_conn, cipher_ahead, cipher_of, exchanged, most_unread, next_message};
+ghost use Rattle.peer_table.specs.KeySessions.{live_with, usable_with};
+ghost use Rattle.peer_table.specs.Naming.{number_of, place};
 ghost use Rattle.peer_table.specs.Outboxes.{GoesOnAfter, GoesOnUnlessOver, HasRoom, Uses, IsUnchanged, Leaves, LeavesSealed, LeavesUnless, TellsOpened, actions_of, incoming, message_seen};
 ghost use Rattle.peer_table.specs.Time.{closings, ticked, ticking};
 
@@ -39,7 +40,7 @@ pub trait ClientSession {
     /// It did not end: after a turn that is over, only calls that look follow.
     ghost goes_on: { Self → Type 0 };
 
-    /// The latest moment that it was told, in milliseconds.
+    /// The latest moment at which time passed for it, in milliseconds; it is told none before.
     ghost since: { Self → ℕ };
 
     /// It has the memory for this event beside an outbox with room for so many effects and bytes.
@@ -113,7 +114,8 @@ pub trait ClientSession {
         ensures uses { (from : Addr) (bytes : List ℕ) (effects room : ℕ) → is_ready self.old (Datagram from bytes) established effects room →
             length view.now.payload.now ≤ length bytes → Uses out.old out.new effects room }
         ensures count { count self.new ≤ count self.old + 1 }
-        ensures since { since self.new ≤ now.0 };
+        ensures since { since self.new ≤ now.0 }
+        ensures since_stays { since self.new ≡ since self.old };
 
     /// The engine has answered on a connection. An answer for no open one does nothing, and neither does one
     /// that says that the connection is down: the owner ends the client then.
@@ -217,7 +219,8 @@ pub trait ClientSession {
         ensures front { take 24 datagram.new ≡ take 24 datagram.old }
         ensures length { length datagram.new ≡ length datagram.old }
         ensures count { count self.new ≡ count self.old }
-        ensures since { since self.new ≤ now.0 };
+        ensures since { since self.new ≤ now.0 }
+        ensures since_stays { since self.new ≡ since self.old };
 
     /// The client's common name; None exactly before it is known.
     fn name(&self) -> Option<&[u8]>
@@ -254,6 +257,22 @@ pub trait ClientSession {
     /// The greatest number of plain text bytes that an open key session has not read.
     fn unread(&self) -> usize
         ensures { (p : Peer) → stands self.now p → result ≡ most_unread p.sessions };
+
+    /// The number of plain text bytes that all open key sessions together have not read; None where no `usize`
+    /// says it.
+    fn unread_in_all(&self) -> Option<usize>
+        ensures some { IfSome result (λ count. (p : Peer) → stands self.now p → count ≡ all_unread p.sessions) }
+        ensures none { IfNone result ((p : Peer) → stands self.now p → 2 ^ 64 ≤ all_unread p.sessions) };
+
+    /// The number of the usable key session with this key id, to which a data packet goes, if there is one.
+    fn data_session(&self, kid: u8, now: Moment) -> Option<u64>
+        ensures { (p : Peer) → stands self.now p → result ≡ usable_with p.timers now.0 p.sessions kid };
+
+    /// The number of the live key session with this key id, to which a control packet goes, or of the next one
+    /// where no live one has it.
+    fn control_session(&self, kid: u8, now: Moment) -> u64
+        requires few { count self.now < 2 ^ 64 - 1 }
+        ensures { (p : Peer) → stands self.now p → result ≡ number_of p (live_with p.timers now.0 p.sessions kid) };
 
     /// Closes the engine connection of each open key session, in order. At most three are open.
     fn close_all(&self, out: &mut Outbox) -> Result<(), NoMemory>

@@ -15,7 +15,6 @@ ghost use Rattle.server_control.specs.Packets.{HasBytes, IsSoundAhead, packet_of
 ghost use Rattle.server_control.specs.internal.Admitting.{HasBegun, state_begun};
 ghost use Rattle.server_control.specs.internal.Taking.{HasTaken, IsSoundAfter};
 
-use crate::control_session::ControlSession;
 use crate::taking::{last_after, take};
 use crate::telling::tell;
 use opcode_codec::ControlView;
@@ -52,7 +51,7 @@ fn begun<S: ClientSession>(session: S, now: Moment) -> ClientState<S>
 
 // A client begins and takes its first packet: the client, the number of the key session to which the packet
 // goes, and the answer. After want of memory the outbox is as before.
-fn begin<S: ControlSession + Drop>(
+fn begin<S: ClientSession + Drop>(
     alloc: Global,
     key: &StaticKey,
     timers: Timers,
@@ -97,7 +96,7 @@ fn begin<S: ControlSession + Drop>(
 }
 
 // A client is admitted and takes the packet, and it is its turn; what comes of it is not told yet.
-fn admit_first<S: ControlSession + Drop>(
+fn admit_first<S: ClientSession + Drop>(
     core: &mut ServerCore<S>,
     alloc: Global,
     from: Addr,
@@ -155,7 +154,7 @@ fn admit_first<S: ControlSession + Drop>(
 
 /// Admits a client, which takes its first control packet: a client's reset with key id 0, whose wrap id is not
 /// 0. Its session begins on the next engine connection. After want of memory nothing has changed.
-pub fn admit<S: ControlSession + Drop>(
+pub fn admit<S: ClientSession + Drop>(
     core: &mut ServerCore<S>,
     alloc: Global,
     from: Addr,

@@ -13,9 +13,9 @@ ghost use Rattle.server_state.specs.Core.{CourseStands, IsSound};
 ghost use Rattle.server_control.specs.Packets.{HasBytes, IsSoundAhead, opened_packet, packet_of};
 
 use crate::admitting::admit;
-use crate::control_session::ControlSession;
 use crate::taking::to_client;
 use opcode_codec::{ControlView, Opcode, read_control};
+use peer_table::ClientSession;
 use server_state::ServerCore;
 use std::alloc::Global;
 use tls_crypt::{Opened, Wrap, Wrapper};
@@ -34,7 +34,7 @@ fn begins_client(op: Opcode, opened: &Opened<'_>, view: &ControlView<'_>) -> boo
 }
 
 // A packet of no client: it admits one, or is reported.
-fn of_nobody<S: ControlSession + Drop>(
+fn of_nobody<S: ClientSession + Drop>(
     core: &mut ServerCore<S>,
     alloc: Global,
     from: Addr,
@@ -81,7 +81,7 @@ fn of_nobody<S: ControlSession + Drop>(
 }
 
 // The client at the sender's address with its session id takes the packet; else it is one of no client.
-fn find_client<S: ControlSession + Drop>(
+fn find_client<S: ClientSession + Drop>(
     core: &mut ServerCore<S>,
     alloc: Global,
     from: Addr,
@@ -120,7 +120,7 @@ fn find_client<S: ControlSession + Drop>(
 }
 
 // The plain text is read, or reported as malformed with the first byte of its datagram.
-fn read_text<S: ControlSession + Drop>(
+fn read_text<S: ClientSession + Drop>(
     core: &mut ServerCore<S>,
     alloc: Global,
     from: Addr,
@@ -175,7 +175,7 @@ fn plain_of(datagram: &[u8]) -> &[u8]
 }
 
 // The datagram is unwrapped where it lies, or reported where no client has wrapped it.
-fn unwrap_datagram<S: ControlSession + Drop, W: Wrap>(
+fn unwrap_datagram<S: ClientSession + Drop, W: Wrap>(
     core: &mut ServerCore<S>,
     alloc: Global,
     from: Addr,
@@ -226,7 +226,7 @@ fn unwrap_datagram<S: ControlSession + Drop, W: Wrap>(
 /// are, in this order, a packet that no client has wrapped, one whose plain text is malformed, one of no client
 /// that admits none, one whose wrap is replayed, and one that no key session takes. The kind is that of the
 /// event, and the events count it already. After want of memory nothing has changed but the datagram.
-pub fn control_arrived<S: ControlSession + Drop>(
+pub fn control_arrived<S: ClientSession + Drop>(
     core: &mut ServerCore<S>,
     alloc: Global,
     from: Addr,

@@ -3,11 +3,9 @@
 
 mod admitting;
 mod arriving;
-mod control_session;
 mod taking;
 mod telling;
 
 pub use admitting::admit;
 pub use arriving::control_arrived;
-pub use control_session::ControlSession;
 pub use taking::to_client;

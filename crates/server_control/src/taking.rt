@@ -16,7 +16,6 @@ ghost use Rattle.server_state.specs.Core.{CourseStands, IsSound};
 ghost use Rattle.server_control.specs.Packets.{HasBytes, IsSoundAhead, packet_of};
 ghost use Rattle.server_control.specs.internal.Taking.{HasTaken, IsSoundAfter, heard_after, last_after};
 
-use crate::control_session::ControlSession;
 use crate::telling::tell;
 use opcode_codec::ControlView;
 use peer_table::{ClientSession, Refused, Turn};
@@ -140,7 +139,7 @@ fn opened_since(out: &Outbox, done: usize) -> u64
 }
 
 // The client whose turn it is, at this place and this address, takes the packet; what comes of it is not told yet.
-fn take_at<S: ControlSession>(
+fn take_at<S: ClientSession>(
     core: &mut ServerCore<S>,
     i: usize,
     to: Addr,
@@ -197,7 +196,7 @@ fn take_at<S: ControlSession>(
 /// The client whose turn it is takes a control packet, if it is here: its session answers, what it refuses is
 /// reported, and it ends where its turn is over. The kind is that of the event, whose datagram the packet was
 /// unwrapped from. After want of memory nothing has changed.
-pub fn to_client<S: ControlSession + Drop>(
+pub fn to_client<S: ClientSession + Drop>(
     core: &mut ServerCore<S>,
     kind: &Kind,
     opened: &Opened<'_>,

@@ -9,8 +9,8 @@ ghost use Rattle.server_table.specs.DataDatagrams as server;
 ghost use Rattle.server_table.specs.Lookups.{client_here};
 ghost use Rattle.server_state.specs.Core.{CourseStands, IsSound};
 
-use crate::data_session::DataSession;
 use crate::opening::open_at;
+use peer_table::ClientSession;
 use server_state::ServerCore;
 use vpn_base::{Addr, Cid};
 use vpn_links::{Note, Outbox};
@@ -25,7 +25,7 @@ fn copy_in(bytes: &[u8], buffer: &mut [u8])
 }
 
 // The client of this number tries to open a data packet.
-fn open_for<S: DataSession>(
+fn open_for<S: ClientSession>(
     core: &mut ServerCore<S>,
     cid: Cid,
     from: Addr,
@@ -58,7 +58,7 @@ fn open_for<S: DataSession>(
 /// client, one of no usable key session, one that does not open, and one whose id is stale. Else its client
 /// may have moved, and what it carries goes on. It is opened in the buffer. The answer is whether there was no
 /// memory to learn the host that it comes from; else it takes none.
-pub fn data_came<S: DataSession>(
+pub fn data_came<S: ClientSession>(
     core: &mut ServerCore<S>,
     from: Addr,
     peer_id: u32,

@@ -2,14 +2,12 @@
 #![tactic(auto)]
 
 mod arriving;
-mod data_session;
 mod hosts;
 mod moving;
 mod opening;
 mod passing;
 
 pub use arriving::data_came;
-pub use data_session::DataSession;
 pub use hosts::learn;
 pub use moving::follow;
 pub use passing::carry;

@@ -13,10 +13,9 @@ ghost use Rattle.server_table.specs.Table.{Client, Table};
 ghost use Rattle.server_state.specs.Core.{CoreStands, CourseStands, IsSound, StateStands};
 ghost use Rattle.server_data.specs.internal.Opening.{Opens, beside, by_numbers};
 
-use crate::data_session::DataSession;
 use crate::moving::follow;
 use crate::passing::carry;
-use peer_table::SessionFault;
+use peer_table::{ClientSession, SessionFault};
 use server_state::{ClientState, ServerCore, count_up};
 use vpn_base::{Addr, Cid, Moment};
 use vpn_links::{Note, Outbox};
@@ -42,7 +41,7 @@ fn behind_head(datagram: &[u8]) -> &[u8]
 }
 
 // Opens a data packet of a client in place.
-fn open<S: DataSession>(
+fn open<S: ClientSession>(
     client: &mut ClientState<S>,
     datagram: &mut [u8],
     now: Moment,
@@ -79,7 +78,7 @@ fn beside(cid: Cid, number: Option<u64>) -> Option<(Cid, u64)>
 }
 
 // Why a data packet is refused.
-fn refuse<S: DataSession>(
+fn refuse<S: ClientSession>(
     core: &mut ServerCore<S>,
     cid: Cid,
     number: Option<u64>,
@@ -112,7 +111,7 @@ fn refuse<S: DataSession>(
 
 // A data packet was opened by the client at this place, and its id was fresh.
 #[tactic(auto, using(crate::proofs::Accepted::accepted_is))]
-fn accept<S: DataSession>(core: &mut ServerCore<S>, cid: Cid, number: Option<u64>, bytes: usize)
+fn accept<S: ClientSession>(core: &mut ServerCore<S>, cid: Cid, number: Option<u64>, bytes: usize)
     ensures accepted { (t : Table) → CoreStands S.stands core.old t → CoreStands S.stands core.new
         (record t { last_taken = beside cid.0 number; bytes_in = counted t.bytes_in bytes }) }
     ensures turn_stays { core.new.turn ≡ core.old.turn }
@@ -124,7 +123,7 @@ fn accept<S: DataSession>(core: &mut ServerCore<S>, cid: Cid, number: Option<u64
 }
 
 // The client at this place tries to open a data packet, where it lies.
-pub(crate) fn open_at<S: DataSession>(
+pub(crate) fn open_at<S: ClientSession>(
     core: &mut ServerCore<S>,
     i: usize,
     cid: Cid,

@@ -17,6 +17,7 @@ use Rattle.peer_table.specs.declared.outcomes.Refused.TheVariants.{Replayed, Bad
 use Rattle.peer_table.specs.declared.outcomes.Turn.{Turn}
 use Rattle.peer_table.specs.ControlPackets.{Incoming, control_came, is_first, kid_in, sid_of}
 use Rattle.peer_table.specs.KeySessions.{live_with}
+use Rattle.peer_table.specs.Naming.{number_of}
 use Rattle.peer_table.specs.Peer.{Outcome, Peer, began}
 use Rattle.server_table.specs.Table.{Client, Table, Unasked}
 use Rattle.server_table.specs.Lookups.{by_session, cid, client_here, free_peer_id, is_full}
@@ -45,12 +46,7 @@ incoming r c x = record {
 abbrev pub with_fresh : ℕ → Client → Client
 with_fresh now x = record x { heard = now }
 
--- the number of the session to which a control packet goes that is taken: the live one with its key id, or the next one
-abbrev pub number_of : Peer → Option ℕ → ℕ
-number_of p None = length p.sessions
-number_of p (Some n) = n
-
--- the same by what is live
+-- the number of the session to which a control packet goes that is taken, by what is live
 abbrev pub control_session : Incoming → Peer → ℕ
 control_session i p = number_of p (live_with p.timers i.moment.0 p.sessions (kid_in i))
 

@@ -1,6 +1,5 @@
 -- A client's key exchange, and the messages behind it.
 use Rattle.std.specs.Prelude.{ℕ, zero, suc, ◌&&◌, is_none, Bool, true, false, List, [], ◌∷◌, length, codes, Option, Some, None}
-use Rattle.std.specs.List.{sum_by}
 use Rattle.std.specs.Str.{bytes_eq}
 use Rattle.vpn_base.specs.declared.names.Cipher.{Cipher}
 use Rattle.vpn_base.specs.declared.names.Conn.{Conn}
@@ -9,7 +8,7 @@ use Rattle.vpn_base.specs.declared.names.Policy.{Policy}
 use Rattle.vpn_base.specs.declared.names.Policy.TheVariants.{Fixed}
 use Rattle.vpn_links.specs.declared.notes.Note.TheVariants as notes
 use Rattle.peer_table.specs.declared.outcomes.Turn.{Turn}
-use Rattle.peer_table.specs.Exchange.{after_message, first_conn, cipher_of, exchanged, next_message, unread}
+use Rattle.peer_table.specs.Exchange.{after_message, all_unread, first_conn, cipher_of, exchanged, next_message}
 use Rattle.peer_table.specs.Peer.{Outcome}
 use Rattle.server_table.specs.Table.{Awaited, Client, Established, FileState, Known, Unasked}
 use Rattle.server_table.specs.Lookups.{cid, client_here}
@@ -60,7 +59,7 @@ messages_taken_upto (suc most) n c = messages_taken_by (messages_taken_upto most
 
 -- more messages can't wait than there are bytes that were not read
 abbrev pub most_messages : Client → ℕ
-most_messages x = sum_by (λ s. length (unread s)) x.session.sessions
+most_messages x = all_unread x.session.sessions
 
 -- as many as may wait at a client
 abbrev pub messages_taken_for : ℕ → Course → Option Client → Course
