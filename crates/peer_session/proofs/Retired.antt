@@ -37,7 +37,7 @@ pub record Stays (P : Timers → List Session → Type 0) : Type 0 where
       P timers ss → P timers (changed_at n f ss)
   pub more : (timers : Timers) (ss : List Session) (x : Session) → has_keys x ≡ false → P timers ss → P timers (ss ++ x ∷ [])
 
--- ---- they stay
+-- ---- what stays
 
 pub over_stays : (at : ℕ) → Stays (IsOver at)
 over_stays at = record {
@@ -73,7 +73,7 @@ retired_stays at = record {
   more = λ timers ss x none is. more_retired at timers ss x none is;
 }
 
--- whatever is closed then
+-- and so does the closing of one
 pub closed_over : (at : ℕ) (timers : Timers) (n : ℕ) (ss : List Session) → IsOver at timers ss → IsOver at timers (changed_at n closed ss)
 closed_over at timers n ss is = transition_changed timers at n closed ss (λ s here. record { keyed = refl; began = refl }) ∙ is
 
@@ -94,7 +94,7 @@ open_by : (b c : Bool) → (b ≡ false → c ≡ false) → c ≡ true → b �
 open_by true c shut still = refl
 open_by false c shut still = absurd (false≢true (sym (shut refl) ∙ still))
 
--- what may be used is open
+-- so what may be used is open
 pub usable_are_open : (since now : ℕ) (p : Peer) → RetiredBy since p → since ≤ now → UsableAreOpen p now
 unfolding RetiredBy
 usable_are_open since now p is le = λ n s older here still.

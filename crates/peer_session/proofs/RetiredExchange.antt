@@ -1,9 +1,9 @@
 -- Keys for the newest key session leave the one before the last with keys open: it was the last one, and where three are open with keys,
 -- it is not the oldest of them.
-use Rattle.std.proofs.Common.{◌≡◌, ◌≢◌, ◌≤◌, ℕ, zero, suc, ◌+◌, ◌-◌, Bool, true, false, List, [], ◌∷◌, length, take, get_or, Option, Some, None, refl, ap, sym, ◌∙◌, arith}
+use Rattle.std.proofs.Common.{◌≡◌, ◌≢◌, ◌≤◌, ℕ, zero, suc, ◌+◌, Bool, true, false, List, [], ◌∷◌, length, take, get_or, Option, Some, None, refl, ap, sym, ◌∙◌, arith}
 use Rattle.std.proofs.lemmas.Bool.{false≢true}
 use Rattle.std.proofs.lemmas.Option.{none-some}
-use Rattle.std.specs.Prelude.{slice_get}
+use Rattle.std.specs.Prelude.{◌&&◌, slice_get}
 use Rattle.vpn_base.specs.declared.names.Cipher.{Cipher}
 use Rattle.vpn_base.specs.declared.names.Draw.{Draw}
 use Rattle.vpn_base.specs.declared.names.Policy.{Policy}
@@ -11,14 +11,14 @@ use Rattle.vpn_base.specs.declared.names.Timers.{Timers}
 use Rattle.key_method2.specs.declared.message.Km2.{Km2}
 use Rattle.key_method2.specs.declared.message.Source.{Source}
 use Rattle.peer_table.specs.declared.outcomes.Turn.{Turn}
-use Rattle.peer_table.specs.KeySessions.{Keyed, Keys, Named, Opening, Session, Stage, closed, has_keys, is_keyed, keyed_before, newest, newest_session, newest_usable, retiring}
-use Rattle.peer_table.specs.Peer.{Outcome, Peer, remote_of}
+use Rattle.peer_table.specs.KeySessions.{Keyed, Named, Opening, Session, Stage, closed, has_keys, is_keyed, keyed_before, newest, newest_session, newest_usable, retiring}
+use Rattle.peer_table.specs.Peer.{Outcome, Peer}
 use Rattle.peer_table.specs.Places.{before_if, changed_at, last_place, later, places_from}
 use Rattle.peer_table.specs.EngineAnswers.{message_in, message_of, prepared_message}
 use Rattle.peer_table.specs.Exchange.{at_most_two, chosen, exchanged, exchanged_from, exchanged_with, is_open_keyed, oldest_of, server_source, session_closed}
 use Rattle.key_sessions.specs.Slots.{LastIsOpen}
 use Rattle.peer_session.proofs.Retired.{IsRetired, OfPeer, stood}
-use Rattle.peer_session.proofs.Retiring.{retiring_changed, take_changed}
+use Rattle.peer_session.proofs.Retiring.{retiring_changed}
 
 -- ---- the newest session gets keys
 

@@ -1,6 +1,5 @@
 -- Time closes a key session only where it can no longer be used, and a client begins with none that is retired.
-use Rattle.std.proofs.Common.{◌≡◌, ◌≤◌, ℕ, Bool, true, false, List, [], ◌∷◌, ◌++◌, length, Option, Some, None, refl, ap, sym, subst, ◌∙◌}
-use Rattle.std.proofs.lemmas.Bool.{false≢true}
+use Rattle.std.proofs.Common.{◌≡◌, ◌≤◌, ℕ, Bool, true, false, List, [], ◌∷◌, ◌++◌, length, Option, Some, None, refl, sym, subst}
 use Rattle.std.proofs.lemmas.Option.{none-some}
 use Rattle.std.specs.Prelude.{slice_get}
 use Rattle.vpn_base.specs.declared.names.Conn.{Conn}
@@ -12,11 +11,10 @@ use Rattle.tls_crypt.specs.Packets.{Wrapping}
 use Rattle.control_link.specs.Calls as link
 use Rattle.peer_table.specs.declared.outcomes.Turn.{Turn}
 use Rattle.peer_table.specs.declared.outcomes.Turn.TheVariants.{Going}
-use Rattle.peer_table.specs.KeySessions.{Session, closed, has_keys, in_transition, keyed_before, newest_usable, retiring, session_at}
+use Rattle.peer_table.specs.KeySessions.{Session, in_transition, newest_usable, retiring, session_at}
 use Rattle.peer_table.specs.Peer.{Opens, Outcome, Peer, answered, began, peer_begun, remote_of, reset_by}
 use Rattle.peer_table.specs.ControlPackets.{with_next}
 use Rattle.peer_table.specs.Exchange.{session_closed}
-use Rattle.peer_table.specs.Places.{last_place}
 use Rattle.peer_table.specs.Time.{Ticking, gone_by, is_late, is_open_session, renewed, renews, resent, resent_in, retired, retired_if, staying, ticked, ticked_idle, ticked_late}
 use Rattle.peer_session.proofs.Retired.{IsOver, IsRetired, OfPeer, Stays, closed_over, over_stays, retired_later, retired_stays}
 use Rattle.peer_session.proofs.RetiredCalls.{gone_on_stays, next_stays, ready_stays}

@@ -21,10 +21,10 @@ ghost use Rattle.key_sessions.specs.Slots.{LastIsOpen};
 ghost use Rattle.peer_session.specs.declared.session.PeerSession.{PeerSession};
 ghost use Rattle.peer_session.specs.Standing.{PeerStands, RetiredBy, UsableAreOpen};
 
-/// A key session that was closed as no longer usable by some moment is not usable then or later, from a
-/// client's beginning on and through each call. A tick may close one that is no longer usable at its own
-/// moment, so it is enough to remember the moment of the last tick that closed one. What a client's session
-/// stands for is orderly, and the last of its key sessions with keys is open.
+/// A key session that was closed as no longer usable by a moment, in milliseconds, is not usable then or later:
+/// this holds from a client's beginning on and through each call. A tick closes one where its own moment is the
+/// first that tells, so it is enough to remember the moment of the last tick that closed one. The key sessions
+/// for which a client's session stands are orderly, and the last of them that has keys is open.
 pub fn retired_sessions_stay_retired<W: Drop>()
     ensures usable { (since now : ℕ) (p : Peer) → RetiredBy since p → since ≤ now → UsableAreOpen p now }
     ensures later { (since now : ℕ) (p : Peer) → RetiredBy since p → since ≤ now → RetiredBy now p }
