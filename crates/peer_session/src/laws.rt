@@ -22,9 +22,9 @@ ghost use Rattle.peer_session.specs.declared.session.PeerSession.{PeerSession};
 ghost use Rattle.peer_session.specs.Standing.{PeerStands, RetiredBy, UsableAreOpen};
 
 /// A key session that was closed as no longer usable by a moment, in milliseconds, is not usable then or later:
-/// this holds from a client's beginning on and through each call. A tick closes one where its own moment is the
-/// first that tells, so it is enough to remember the moment of the last tick that closed one. The key sessions
-/// for which a client's session stands are orderly, and the last of them that has keys is open.
+/// this holds from a client's beginning on and through each call. A tick closes one only if it is no longer
+/// usable at the tick's own moment, so it is enough to remember the moment of the last tick that closed one. The
+/// key sessions for which a client's session stands are orderly, and the last of them that has keys is open.
 pub fn retired_sessions_stay_retired<W: Drop>()
     ensures usable { (since now : ℕ) (p : Peer) → RetiredBy since p → since ≤ now → UsableAreOpen p now }
     ensures later { (since now : ℕ) (p : Peer) → RetiredBy since p → since ≤ now → RetiredBy now p }
