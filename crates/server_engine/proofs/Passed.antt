@@ -13,13 +13,15 @@ use Rattle.peer_table.specs.Peer.{Peer}
 use Rattle.server_table.specs.Courses.{Course, client_changed, reported}
 use Rattle.server_table.specs.Exchange.{message_came, messages_taken_by, messages_taken_of, other_message, push_request, requested}
 use Rattle.server_table.specs.Lookups.{cid, client_here}
+use Rattle.server_table.specs.Table.{Client, Table}
 use Rattle.server_state.specs.declared.client.ClientState.{ClientState}
 use Rattle.server_state.specs.declared.state.ServerCore.{ServerCore}
 use Rattle.server_state.specs.Core.{CourseStands, FileStands, established_at, name_once}
 use Rattle.server_state.specs.Places.{IsChangedAt, IsThere}
 use Rattle.server_engine.specs.declared.messages.Waiting.{Waiting}
 use Rattle.server_engine.specs.declared.messages.Waiting.TheVariants as found
-use Rattle.server_engine.specs.Messages.{IsPassed, Sees}
+use Rattle.server_engine.specs.Messages.{IsPassed, Sees, passed}
+use Rattle.server_engine.proofs.Asked.{same_client}
 use Rattle.server_engine.proofs.Judged.{state_at, value_is}
 
 -- a message leaves the other end's session id and name
@@ -73,9 +75,6 @@ module _ {S : Type 0} (means : S → Peer → Type 0) (before : List Action) (co
       }
 
 -- ---- what it is
-
-abbrev pub passed : ℕ → Course → Course
-passed n c = client_changed n (λ x. record x { session = after_message x.session }) c
 
 none_waits : (behind : Course → Course) (n : ℕ) (c : Course) (m : Option (Conn × List ℕ)) → Sees found.Nothing m → messages_taken_of behind n c m ≡ c
 none_waits behind n c None sees = refl
@@ -147,3 +146,11 @@ module _ {S : Type 0} (means : S → Peer → Type 0) (before : List Action) (co
     stands = h;
     leads = λ behind. by_client behind ∙ other_waits behind n c (next_message there.client.session) (sees_as found.Other is);
   }
+
+-- it is found so at the client of its number
+pub seen_at : {S : Type 0} (means : S → Peer → Type 0) (core : ServerCore S) (t : Table) (n i : ℕ) → IsThere means core t n i → (v : ClientState S)
+    → option_map (λ e. e.value) (slice_get (entries_of core.clients) i) ≡ Some v → (seen found : Waiting) → ((p : Peer) → means v.session p → Sees seen (next_message p))
+    → seen ≡ found → (x : Client) → client_here t n ≡ Some x → Sees found (next_message x.session)
+seen_at means core t n i there v at seen found sees is x here =
+    subst (λ (x : Client). Sees found (next_message x.session)) (same_client (client_here t n) there.client x there.client_there here)
+    (subst (λ seen. Sees seen (next_message there.client.session)) is (sees there.client.session (state_at means core t n i there v at).session))

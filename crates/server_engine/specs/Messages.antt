@@ -3,10 +3,12 @@ use Rattle.std.specs.Prelude.{◌≡◌, ◌≤◌, ℕ, true, false, List, leng
 use Rattle.std.specs.Str.{bytes_eq}
 use Rattle.vpn_base.specs.declared.names.Conn.{Conn}
 use Rattle.vpn_links.specs.Actions.{Action, Contents}
+use Rattle.vpn_links.specs.declared.notes.Note.TheVariants.{Ignored}
+use Rattle.peer_table.specs.Exchange.{after_message}
 use Rattle.peer_table.specs.Peer.{Peer}
-use Rattle.server_table.specs.Courses.{Course}
+use Rattle.server_table.specs.Courses.{Course, client_changed, reported}
 use Rattle.server_table.specs.Exchange.{messages_taken_by, push_request, requested}
-use Rattle.server_table.specs.Lookups.{client_here}
+use Rattle.server_table.specs.Lookups.{cid, client_here}
 use Rattle.server_state.specs.declared.state.ServerCore.{ServerCore}
 use Rattle.server_state.specs.Core.{CourseStands}
 use Rattle.server_engine.specs.declared.messages.Waiting.{Waiting}
@@ -24,6 +26,17 @@ abbrev pub Sees : Waiting → Option (Conn × List ℕ) → Type 0
 Sees seen (Some m) = SeesBytes seen m.0 m.1
 Sees found.Nothing None = Unit {0}
 Sees seen None = ⊥
+
+-- the next message of the client of this number was passed
+abbrev pub passed : ℕ → Course → Course
+passed n c = client_changed n (λ x. record x { session = after_message x.session }) c
+
+-- the same by what it was found to be: one that is neither empty nor a request is reported
+abbrev pub passed_on : ℕ → Course → Waiting → Course
+passed_on n c found.Nothing = c
+passed_on n c found.Empty = passed n c
+passed_on n c (found.Request conn) = passed n c
+passed_on n c found.Other = reported (Ignored (cid n)) (passed n c)
 
 -- a message was passed, and this is to be done of it before what comes behind it
 pub record HasPassed {S : Type 0} (means : S → Peer → Type 0) (before : List Action) (core : ServerCore S) (out : Contents) (n : ℕ) (c : Course) (rest : Course → Course) : Type 0 where

@@ -8,8 +8,10 @@ ghost use Rattle.peer_table.specs.Exchange.{after_message, next_message};
 ghost use Rattle.peer_table.specs.Outboxes.{HasRoom, Uses};
 ghost use Rattle.peer_table.specs.Peer.{Peer};
 ghost use Rattle.server_table.specs.Courses.{Course, client_changed};
-ghost use Rattle.server_state.specs.Core.{CourseStands, IsSound};
-ghost use Rattle.server_engine.specs.Messages.{IsPassed, Sees, SeesBytes};
+ghost use Rattle.server_table.specs.Lookups.{client_here};
+ghost use Rattle.server_table.specs.Table.{Client, Table};
+ghost use Rattle.server_state.specs.Core.{CoreStands, CourseStands, IsSound};
+ghost use Rattle.server_engine.specs.Messages.{IsPassed, Sees, SeesBytes, passed_on};
 
 use peer_table::ClientSession;
 use server_state::{ClientState, ServerCore};
@@ -72,6 +74,7 @@ fn pass_at<S: ClientSession>(core: &mut ServerCore<S>, i: usize)
     ensures sound { IsSound S.goes_on S.count S.since core.new }
     ensures turn_stays { core.new.turn ≡ core.old.turn }
     ensures mark_stays { core.new.mark ≡ core.old.mark }
+    ensures only { core.new ≡ record core.old { clients = core.new.clients } }
 {
     client_table::lending_sets_the_value::<ClientState<S>>();
     server_state::places_tell_of_clients::<S>();
@@ -92,10 +95,14 @@ pub fn take_message<S: ClientSession>(
     requires sound { IsSound S.goes_on S.count S.since core.old }
     ensures taken { (before : List Action) (c : Course) → CourseStands S.stands before core.old out.old c →
         IsPassed S.stands before core.new out.new core.old.turn.0 c result }
+    ensures seen { (t : Table) (x : Client) → CoreStands S.stands core.old t → client_here t core.old.turn.0 ≡ Some x → Sees result (next_message x.session) }
+    ensures came { (before : List Action) (c : Course) → CourseStands S.stands before core.old out.old c →
+        CourseStands S.stands before core.new out.new (passed_on core.old.turn.0 c result) }
     ensures sound { IsSound S.goes_on S.count S.since core.new }
     ensures uses { Uses out.old out.new 1 0 }
     ensures turn_stays { core.new.turn ≡ core.old.turn }
     ensures mark_stays { core.new.mark ≡ core.old.mark }
+    ensures only { core.new ≡ record core.old { clients = core.new.clients } }
 {
     server_state::places_tell_of_clients::<S>();
     let cid = core.turn;

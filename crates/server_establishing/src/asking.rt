@@ -1,6 +1,6 @@
 //! A client asks for its options.
 
-ghost use Rattle.std.specs.Prelude.{◌≡◌, ◌+◌, List, Some, IfOk};
+ghost use Rattle.std.specs.Prelude.{◌≡◌, ◌≤◌, ◌+◌, List, Some, IfOk};
 ghost use Rattle.vpn_links.specs.Actions.{Action};
 ghost use Rattle.peer_table.specs.Outboxes.{HasRoom, Uses};
 ghost use Rattle.server_table.specs.Courses.{Course};
@@ -75,6 +75,7 @@ fn establish_new<S: ClientSession + Drop>(
     ensures kept { IsKept core.new result }
     ensures sound { IsSound S.goes_on S.count S.since core.old → IsSound S.goes_on S.count S.since core.new }
     ensures uses { Uses out.old out.new (5 + effects_with ahead.file ahead.lease) (39 + bytes_with ahead.file ahead.lease) }
+    ensures less { (prepared_effects result ≤ 5 + effects_with ahead.file ahead.lease) × (prepared_bytes result ≤ 39 + bytes_with ahead.file ahead.lease) }
     ensures turn_stays { core.new.turn ≡ core.old.turn }
     ensures mark_stays { core.new.mark ≡ core.old.mark }
 {
@@ -100,6 +101,7 @@ pub fn answer_request<S: ClientSession + Drop>(
     ensures kept { IsKept core.new result }
     ensures sound { IsSound S.goes_on S.count S.since core.old → IsSound S.goes_on S.count S.since core.new }
     ensures uses { Uses out.old out.new (prepared_effects prepared) (prepared_bytes prepared) }
+    ensures less { (prepared_effects result ≤ prepared_effects prepared) × (prepared_bytes result ≤ prepared_bytes prepared) }
     ensures turn_stays { core.new.turn ≡ core.old.turn }
     ensures mark_stays { core.new.mark ≡ core.old.mark }
 {
@@ -146,6 +148,7 @@ pub fn establish_as_asked<S: ClientSession + Drop>(
     ensures kept { IsKept core.new result }
     ensures sound { IsSound S.goes_on S.count S.since core.old → IsSound S.goes_on S.count S.since core.new }
     ensures uses { Uses out.old out.new (prepared_effects prepared) (prepared_bytes prepared) }
+    ensures less { (prepared_effects result ≤ prepared_effects prepared) × (prepared_bytes result ≤ prepared_bytes prepared) }
     ensures turn_stays { core.new.turn ≡ core.old.turn }
     ensures mark_stays { core.new.mark ≡ core.old.mark }
 {
