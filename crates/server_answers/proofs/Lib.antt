@@ -4,3 +4,6 @@ pub mod Taken
 pub mod Stays
 pub mod Followed
 pub mod Room
+pub mod Readied
+pub mod Going
+pub mod Early
