@@ -153,4 +153,4 @@ pub seen_at : {S : Type 0} (means : S → Peer → Type 0) (core : ServerCore S)
     → seen ≡ found → (x : Client) → client_here t n ≡ Some x → Sees found (next_message x.session)
 seen_at means core t n i there v at seen found sees is x here =
     subst (λ (x : Client). Sees found (next_message x.session)) (same_client (client_here t n) there.client x there.client_there here)
-    (subst (λ seen. Sees seen (next_message there.client.session)) is (sees there.client.session (state_at means core t n i there v at).session))
+    (subst (λ seen. Sees seen (next_message there.client.session)) is (sees there.client.session (state_at means core t n i v there at).session))
