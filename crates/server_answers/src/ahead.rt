@@ -237,6 +237,15 @@ pub(crate) fn is_established<S: ClientSession>(core: &ServerCore<S>, i: usize) -
     core.clients.look_at(i).established.is_some()
 }
 
+// Whether the client at this place has a name.
+fn has_name<S: ClientSession>(core: &ServerCore<S>, i: usize) -> bool
+    requires at { IsTurnAt core.now i }
+    ensures { (t : Table) (x : Client) → CoreStands S.stands core.now t → client_here t core.now.turn.0 ≡ Some x → result ≡ is_some x.session.name }
+{
+    server_state::places_tell_of_clients::<S>();
+    core.clients.look_at(i).session.name().is_some()
+}
+
 /// Prepares the client at this place for what may follow an answer of the engine: to establish it, or to write the
 /// same reply again.
 pub(crate) fn prepare_at<S: ClientSession>(
@@ -255,6 +264,10 @@ pub(crate) fn prepare_at<S: ClientSession>(
 {
     let cid = core.turn;
     if is_established(core, i) {
+        // Each client that is established has a name.
+        if !has_name(core, i) {
+            return Err(NoMemory);
+        }
         return prepare_reply(core, alloc, cid);
     }
     let name = match name_at(core, alloc, i, kind) {

@@ -1,5 +1,5 @@
 -- What is taken ahead of a client's step.
-use Rattle.std.specs.Prelude.{◌≡◌, ◌≤◌, ◌<◌, ℕ, List, length, Option, Some, None}
+use Rattle.std.specs.Prelude.{◌≡◌, ◌≤◌, ◌<◌, ℕ, Bool, true, List, length, Option, Some, None, is_some}
 use Rattle.vpn_links.specs.Actions.{Action, Contents}
 use Rattle.vpn_links.specs.declared.events.Kind.{Kind}
 use Rattle.vpn_links.specs.declared.events.Kind.TheVariants.{EngineUp}
@@ -65,8 +65,8 @@ pub record IsReadiedNew (kind : Kind) (c : Course) (n : ℕ) (x : Client) (ahead
   pub file : ccd_in x.file ≡ ahead.file
   pub made : IsMadeFor c n ahead.name ahead.file ahead
 
--- this is prepared for a client that an answer of the engine is for
+-- this is prepared for a client that an answer of the engine is for; one that is established has a name
 abbrev pub IsReadied : Kind → Course → ℕ → Client → Prepared → Type 0
 IsReadied kind c n x (New ahead) = IsReadiedNew kind c n x ahead
-IsReadied kind c n x (Again replies) = IsEstablishedWith c.table x (Some replies)
+IsReadied kind c n x (Again replies) = IsEstablishedWith c.table x (Some replies) × (is_some x.session.name ≡ true)
 IsReadied kind c n x Nothing = ⊥
