@@ -1,5 +1,5 @@
 -- What is prepared for a client stays right as its step goes on.
-use Rattle.std.proofs.Common.{◌≡◌, ℕ, zero, suc, ◌+◌, ◌≤◌, Bool, true, false, cond, List, [], ◌∷◌, length, slice_get, Option, Some, None, is_some, refl, sym, ap, subst, ◌∙◌, arith}
+use Rattle.std.proofs.Common.{◌≡◌, ℕ, zero, suc, ◌+◌, ◌≤◌, ◌<◌, Bool, true, false, cond, List, [], ◌∷◌, length, slice_get, option_map, Option, Some, None, is_some, refl, sym, ap, subst, ◌∙◌, arith}
 use Rattle.std.specs.Prelude.{unwrap_or}
 use Rattle.std.proofs.lemmas.Bool.{false≢true}
 use Rattle.vpn_base.specs.declared.address.Addr.{Addr}
@@ -13,6 +13,8 @@ use Rattle.vpn_links.specs.Actions.{Action, Contents}
 use Rattle.vpn_links.specs.declared.events.Kind.{Kind}
 use Rattle.vpn_links.specs.declared.events.Kind.TheVariants as kinds
 use Rattle.ccd_files.specs.declared.client_file.Ccd.{Ccd}
+use Rattle.client_table.specs.Changes.{place_of}
+use Rattle.client_table.specs.Tables.{entries_of}
 use Rattle.ccd_files.specs.ClientFile.{no_ccd}
 use Rattle.ovpn_config.specs.declared.settings.Settings.{Settings}
 use Rattle.peer_table.specs.declared.outcomes.Turn.{Turn}
@@ -23,14 +25,17 @@ use Rattle.peer_table.specs.Peer.{Outcome, Peer}
 use Rattle.peer_table.specs.Places.{changed_at}
 use Rattle.server_table.specs.Courses.{Course, acted, client_changed, with_client}
 use Rattle.server_table.specs.Endings.{ended, ended_as, gone, turned}
-use Rattle.server_table.specs.Engine.{asked, asked_by, asked_for, asked_in, asked_once, file_is}
+use Rattle.server_table.specs.Engine.{asked, asked_by, asked_for, asked_in, asked_once, file_is, gone_on, unread_judged}
 use Rattle.server_table.specs.Establishing.{ccd_in, leased_to, name_in}
 use Rattle.server_table.specs.Exchange.{exchange, exchange_made, messages_taken}
 use Rattle.server_table.specs.Lookups.{client_here, if_here}
 use Rattle.server_table.specs.Table.{Awaited, Client, Established, FileState, Known, Table, Unasked}
 use Rattle.server_texts.specs.Replies.{AreRepliesTo, Replies}
+use Rattle.server_state.specs.declared.client.ClientState.{ClientState}
 use Rattle.server_state.specs.declared.state.ServerCore.{ServerCore}
 use Rattle.server_state.specs.Core.{CourseStands}
+use Rattle.server_state.specs.Places.{IsThere}
+use Rattle.server_engine.specs.Calls.{MayExchangeNow, StaysReady}
 use Rattle.server_engine.specs.Files.{NameFits}
 use Rattle.server_engine.specs.Rests.{NameFitsFor, exchange_of, keys_exchanged}
 use Rattle.server_establishing.specs.declared.ahead.Ahead.{Ahead}
@@ -43,6 +48,7 @@ use Rattle.server_answers.specs.Texts.{text_in}
 use Rattle.server_answers.specs.internal.Ahead.{GivenAhead, IsReadied, LongestFits, NameAhead}
 use Rattle.server_answers.specs.internal.Following.{IfKeyed, IsPreparedFor, MayFollow}
 use Rattle.server_answers.proofs.Keeping.{changed_here, some_is}
+use Rattle.server_answers.proofs.Readied.{value_is}
 use Rattle.server_answers.proofs.Stays.{MadeStays}
 
 -- ---- the client is changed
@@ -152,6 +158,20 @@ made_so stays keeps less draw n c x p left there nothing of unread y here =
       prepared = prepared_made stays keeps draw n c x p there of;
       unread = at_most (all_unread o.peer.sessions) (all_unread x.session.sessions) left (less _ x.peer_id draw x.session nothing) unread;
     }))
+
+-- the value at a place has the session of its client
+pub session_at : {S : Type 0} (means : S → Peer → Type 0) (core : ServerCore S) (t : Table) (n i : ℕ) (l : IsThere means core t n i) (v : ClientState S)
+    → option_map (λ e. e.value) (slice_get (entries_of core.clients) i) ≡ Some v → (x : Client) → client_here t n ≡ Some x → means v.session x.session
+session_at means core t n i l v at x there =
+    subst (λ (x : Client). means v.session x.session) (some_is l.client x (sym l.client_there ∙ there))
+    (subst (λ (v : ClientState _). means v.session l.client.session) (value_is (slice_get (entries_of core.clients) i) l.entry v l.entry_there at) l.stands.state.session)
+
+-- of the newest session of a client nothing was read before its exchange
+pub reads_nothing : {S : Type 0} (means : S → Peer → Type 0) (core : ServerCore S) (c : Course) (n i : ℕ) (l : IsThere means core c.table n i) (x : Client)
+    → client_here c.table n ≡ Some x → ((s : S) (p : Peer) → means s p → NothingReadBefore p.sessions) → NothingReadBefore x.session.sessions
+reads_nothing means core c n i l x there law =
+    subst (λ (x : Client). NothingReadBefore x.session.sessions) (some_is l.client x (sym l.client_there ∙ there))
+    (law l.entry.value.session l.client.session l.stands.state.session)
 
 -- the exchange is finished, whether the client is here still or not
 pub finished : {S : Type 0} (means : S → Peer → Type 0) (before : List Action) (mid next : ServerCore S) (half out : Contents) (n : ℕ) (c : Course) (p : Prepared) (left : ℕ)
@@ -368,3 +388,47 @@ module _ (stays : MadeStays) (names : NamesStay) (fits : NamesFit) (less : Bring
     unread = at_most (all_unread o.peer.sessions) (all_unread x.session.sessions + text_in kind) left (less kind now x.session) unread;
     name = name_for p of most;
   }
+
+-- ---- the core behind a question for a file
+
+pub kept_only : {S : Type 0} (core next : ServerCore S) (p : Prepared) → next ≡ record core { clients = next.clients } → IsKept core p → IsKept next p
+kept_only core next p only kept = kept_so core next p (ap (λ (k : ServerCore _). k.held) only) (rows_so core.routes.spare_rows next.routes.spare_rows (ap (λ (k : ServerCore _). k.routes.spare_rows) only)) kept
+  where
+    rows_so : (a b : ℕ) → b ≡ a → a ≤ b
+    rows_so a b is = omega (arith, is)
+
+pub ready_still : {S : Type 0} (may_exchange : S → Type 0) (core next : ServerCore S) (i : ℕ) → StaysReady may_exchange core next → next.turn ≡ core.turn
+    → MayExchangeNow may_exchange core i → MayExchangeNow may_exchange next i
+ready_still may_exchange core next i stays turn h = record {
+  place = ap (λ (who : Cid). place_of who.0 (entries_of next.clients)) turn ∙ stays.places core.turn.0 ∙ h.place;
+  within = subst (λ n. i < n) (sym stays.many) h.within;
+  exchange = stays.exchange i h.exchange;
+  named = stays.named i h.named;
+}
+
+-- a client whose turn it is still makes its exchange
+pub follow_in_turn : {S : Type 0} (means : S → Peer → Type 0) (before : List Action) (mid next : ServerCore S) (half out : Contents) (draw : Draw) (who : Cid) (c : Course) (p : Prepared)
+    (left : ℕ) → mid.turn ≡ who
+    → ((c : Course) (y : Client) → CourseStands means before mid half c → client_here c.table mid.turn.0 ≡ Some y → IsPrepared c mid.turn.0 y p → all_unread y.session.sessions ≤ left
+    → CourseStands means before next out (unread_judged mid.turn.0 (exchange draw mid.turn.0 c)))
+    → CourseStands means before mid half c → (y : Client) → client_here c.table who.0 ≡ Some y → IsPrepared c who.0 y p → all_unread y.session.sessions ≤ left
+    → CourseStands means before next out (unread_judged who.0 (exchange draw who.0 c))
+follow_in_turn means before mid next half out draw who c p left turn followed h y there of less =
+    subst (λ (who : Cid). CourseStands means before next out (unread_judged who.0 (exchange draw who.0 c))) turn
+    (followed c y h (ap (λ (who : Cid). client_here c.table who.0) turn ∙ there) (subst (λ (who : Cid). IsPrepared c who.0 y p) (sym turn) of) less)
+
+-- a client whose turn it is still goes on
+pub taken_in_turn : {S : Type 0} (means : S → Peer → Type 0) (before : List Action) (mid next : ServerCore S) (half out : Contents) (draw : Draw) (who : Cid) (c : Course) (p : Prepared)
+    (left longest : ℕ) (turn : Turn) → mid.turn ≡ who
+    → ((c : Course) (y : Client) → CourseStands means before mid half c → client_here c.table mid.turn.0 ≡ Some y → MayFollow turn c mid.turn.0 y p left longest
+    → CourseStands means before next out (gone_on draw mid.turn.0 c turn))
+    → CourseStands means before mid half c → (y : Client) → client_here c.table who.0 ≡ Some y → MayFollow turn c who.0 y p left longest
+    → CourseStands means before next out (gone_on draw who.0 c turn)
+taken_in_turn means before mid next half out draw who c p left longest turn stays followed h y there may =
+    subst (λ (who : Cid). CourseStands means before next out (gone_on draw who.0 c turn)) stays
+    (followed c y h (ap (λ (who : Cid). client_here c.table who.0) stays ∙ there) (subst (λ (who : Cid). MayFollow turn c who.0 y p left longest) (sym stays) may))
+
+-- the name of a client that is here
+pub name_here : (longest n : ℕ) (c : Course) (x : Client) → client_here c.table n ≡ Some x → NameFits longest x.session.name → (y : Client) → client_here c.table n ≡ Some y
+    → NameFits longest y.session.name
+name_here longest n c x there fits y at = subst (λ (x : Client). NameFits longest x.session.name) (some_is x y (sym there ∙ at)) fits

@@ -5,5 +5,6 @@ pub mod Stays
 pub mod Followed
 pub mod Room
 pub mod Readied
+pub mod Looked
 pub mod Going
 pub mod Early

@@ -272,3 +272,7 @@ on_err (Err e) h into = into h
 pub either : {X E A B C D : Type 0} (r : Result X E) → OnOk r A → OnErr r B → (A → C) → (B → D) → MatchResult r (λ _. C) (λ _. D)
 either (Ok x) h k into onto = into h
 either (Err e) h k into onto = onto k
+
+pub both_err : {X E A B C : Type 0} (r : Result X E) → OnErr r A → OnErr r B → (A → B → C) → OnErr r C
+both_err (Ok x) h k into = tt
+both_err (Err e) h k into = into h k

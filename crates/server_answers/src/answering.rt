@@ -17,7 +17,7 @@ ghost use Rattle.server_answers.specs.internal.Ahead.{IsTurnAt, StaysSame};
 
 use crate::ahead::{longest_at, make_ready, prepare_at, text_length, unread_at};
 use crate::following::take_plain;
-use crate::room::{reserve_all, reserve_ending};
+use crate::reserving::{reserve_all, reserve_ending};
 use peer_table::ClientSession;
 use server_engine::{by_connection, send_text};
 use server_establishing::give_back_held;

@@ -17,7 +17,7 @@ ghost use Rattle.server_answers.specs.internal.Filing.{awaits, is_waited_for};
 
 use crate::ahead::{is_established, make_ready, own_name_at, prepare_new, unread_at};
 use crate::following::follow_exchange;
-use crate::room::reserve_exchange;
+use crate::reserving::reserve_exchange;
 use ccd_files::Ccd;
 use peer_table::ClientSession;
 use server_engine::{know_file, read_answer, take_file};

@@ -8,7 +8,7 @@ mod filing;
 mod following;
 mod laws;
 mod messages;
-mod room;
+mod reserving;
 
 pub use answering::engine_answered;
 pub use exchanged::finish_exchange;
