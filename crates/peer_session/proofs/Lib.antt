@@ -8,3 +8,8 @@ mod Ends
 mod Finished
 mod Lines
 mod Resets
+mod Retiring
+mod Retired
+mod RetiredCalls
+mod RetiredExchange
+mod RetiredTicks

@@ -3,6 +3,7 @@
 
 mod begin;
 mod closing;
+mod laws;
 mod looks;
 mod messages;
 mod name;
@@ -12,4 +13,5 @@ mod ready;
 mod session;
 mod ticks;
 
+pub use laws::retired_sessions_stay_retired;
 pub use session::PeerSession;

@@ -4,3 +4,7 @@ pub mod Taken
 pub mod Stays
 pub mod Followed
 pub mod Room
+pub mod Readied
+pub mod Looked
+pub mod Going
+pub mod Early

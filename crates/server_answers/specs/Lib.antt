@@ -1,2 +1,3 @@
 pub mod Rooms
 pub mod Texts
+pub mod internal

@@ -16,8 +16,10 @@ use Rattle.server_state.specs.declared.client.ClientState.{ClientState}
 use Rattle.server_state.specs.declared.state.ServerCore.{ServerCore}
 use Rattle.server_state.specs.Core.{CourseStands, FileStands}
 use Rattle.server_state.specs.Places.{IsThere}
-use Rattle.server_engine.specs.Rests.{HasBegun}
+use Rattle.server_table.specs.Lookups.{client_here}
+use Rattle.server_engine.specs.Rests.{HasBegun, HasMade, keys_exchanged}
 use Rattle.server_engine.specs.internal.Asked.{is_known}
+use Rattle.server_engine.proofs.Asked.{same_client}
 use Rattle.server_engine.proofs.Judged.{value_is}
 
 with_known : (name : Option (List ℕ)) (file : ClientFile) (state : FileState) (draw : Draw) (n : ℕ) (x : Client) (c : Course) → is_known file ≡ true → FileStands name file state
@@ -71,3 +73,18 @@ module _ {S : Type 0} (means : S → Peer → Type 0) (before : List Action) (co
         stands = got x refl;
         leads = ap (exchange_for draw n c) there.client_there ∙ with_known x.session.name v.file x.file draw n x c is file_was;
       }
+
+  module _ (x : Client) (here : client_here c.table n ≡ Some x) where
+    file_then : FileStands x.session.name v.file x.file
+    file_then = subst (λ (x : Client). FileStands x.session.name v.file x.file) (same_client _ there.client x there.client_there here) file_was
+
+    -- the file is not known yet, and nothing was done
+    pub none_made : (next : ServerCore S) (out : Contents) → is_known v.file ≡ false → CourseStands means before next out c → HasMade means before next out draw n x c false
+    unfolding exchange
+    none_made next out is h = (h, ap (exchange_for draw n c) here ∙ with_unknown x.session.name v.file x.file draw n x c is file_then)
+
+    -- it is known, and the exchange was made
+    pub one_made : (next : ServerCore S) (out : Contents) → is_known v.file ≡ true → CourseStands means before next out (keys_exchanged draw n x c)
+        → HasMade means before next out draw n x c true
+    unfolding exchange
+    one_made next out is h = (h, ap (exchange_for draw n c) here ∙ with_known x.session.name v.file x.file draw n x c is file_then)

@@ -5,10 +5,13 @@ use Rattle.vpn_links.specs.Actions.{Action, Contents}
 use Rattle.peer_table.specs.declared.outcomes.Turn.{Turn}
 use Rattle.peer_table.specs.declared.outcomes.Turn.TheVariants as turns
 use Rattle.peer_table.specs.Peer.{Peer}
-use Rattle.server_table.specs.Courses.{Course}
+use Rattle.peer_table.specs.Exchange.{cipher_of, exchanged}
+use Rattle.peer_table.specs.Peer.{Outcome}
+use Rattle.server_table.specs.Courses.{Course, acted}
+use Rattle.server_table.specs.Endings.{turned}
 use Rattle.server_table.specs.Engine.{unread_judged}
-use Rattle.server_table.specs.Exchange.{exchange, exchange_made, messages_taken}
-use Rattle.server_table.specs.Table.{Table}
+use Rattle.server_table.specs.Exchange.{exchange, exchange_made, messages_taken, policy_with}
+use Rattle.server_table.specs.Table.{Client, Table}
 use Rattle.server_state.specs.declared.state.ServerCore.{ServerCore}
 use Rattle.server_state.specs.Core.{CourseStands}
 use Rattle.server_engine.specs.declared.going_on.Rest.{Rest}
@@ -48,3 +51,17 @@ IfExchange rest holds = Unit {0}
 abbrev pub HasBegun : {S : Type 0} → (S → Peer → Type 0) → List Action → ServerCore S → Contents → Draw → ℕ → Course → Bool → Type 0
 HasBegun means before core out draw n c true = IsLeft means before core out (exchange_made n) (exchange draw n c)
 HasBegun means before core out draw n c false = CourseStands means before core out (exchange draw n c)
+
+-- the key exchange of a client, by the cipher that its keys have
+abbrev pub exchange_of : Draw → Client → Course → Outcome Turn
+exchange_of draw x c = exchanged (policy_with c.table.settings.ciphers (cipher_of x.session)) x.peer_id draw x.session
+
+-- the client has made it, or it has ended the client
+abbrev pub keys_exchanged : Draw → ℕ → Client → Course → Course
+keys_exchanged draw n x c = turned n (exchange_of draw x c).answer (acted n x.address (exchange_of draw x c) c)
+
+-- the client has made its key exchange, behind which it is finished, or it makes none
+abbrev pub HasMade : {S : Type 0} → (S → Peer → Type 0) → List Action → ServerCore S → Contents → Draw → ℕ → Client → Course → Bool → Type 0
+HasMade means before core out draw n x c true =
+    CourseStands means before core out (keys_exchanged draw n x c) × (exchange draw n c ≡ exchange_made n (keys_exchanged draw n x c))
+HasMade means before core out draw n x c false = CourseStands means before core out c × (exchange draw n c ≡ c)

@@ -52,6 +52,7 @@ pub(crate) fn set_file<S: ClientSession>(core: &mut ServerCore<S>, i: usize, fil
     ensures ready { StaysReady S.may_exchange core.old core.new }
     ensures turn_stays { core.new.turn ≡ core.old.turn }
     ensures mark_stays { core.new.mark ≡ core.old.mark }
+    ensures only { core.new ≡ record core.old { clients = core.new.clients } }
 {
     client_table::lending_sets_the_value::<ClientState<S>>();
     server_state::places_tell_of_clients::<S>();
@@ -102,6 +103,7 @@ fn ask_own<S: ClientSession>(
     ensures uses { Uses out.old out.new 1 longest }
     ensures turn_stays { core.new.turn ≡ core.old.turn }
     ensures mark_stays { core.new.mark ≡ core.old.mark }
+    ensures only { core.new ≡ record core.old { clients = core.new.clients } }
 {
     server_state::places_tell_of_clients::<S>();
     put_ask_own(cid, &core.clients.look_at(i).session, longest, out);
@@ -125,6 +127,7 @@ pub(crate) fn ask_default<S: ClientSession>(
     ensures uses { Uses out.old out.new 1 7 }
     ensures turn_stays { core.new.turn ≡ core.old.turn }
     ensures mark_stays { core.new.mark ≡ core.old.mark }
+    ensures only { core.new ≡ record core.old { clients = core.new.clients } }
 {
     put(
         out,
@@ -167,6 +170,7 @@ fn ask_first<S: ClientSession>(
     ensures uses { Uses out.old out.new 1 longest }
     ensures turn_stays { core.new.turn ≡ core.old.turn }
     ensures mark_stays { core.new.mark ≡ core.old.mark }
+    ensures only { core.new ≡ record core.old { clients = core.new.clients } }
 {
     match &core.settings.ccd {
         None => set_file(core, i, ClientFile::Known(no_file(alloc))),
@@ -191,6 +195,7 @@ pub fn ask_file<S: ClientSession>(
     ensures uses { Uses out.old out.new 1 longest }
     ensures turn_stays { core.new.turn ≡ core.old.turn }
     ensures mark_stays { core.new.mark ≡ core.old.mark }
+    ensures only { core.new ≡ record core.old { clients = core.new.clients } }
 {
     server_state::places_tell_of_clients::<S>();
     match core.clients.place(cid) {

@@ -1,16 +1,17 @@
 //! A client whose file is known makes its key exchange.
 
-ghost use Rattle.std.specs.Prelude.{◌≡◌, ◌<◌, List, length, Some};
+ghost use Rattle.std.specs.Prelude.{◌≡◌, ◌<◌, ◌≤◌, List, length, Some};
 ghost use Rattle.vpn_links.specs.Actions.{Action, Contents};
 ghost use Rattle.client_table.specs.Changes.{place_of};
 ghost use Rattle.client_table.specs.Tables.{entries_of};
 ghost use Rattle.peer_table.specs.Outboxes.{HasRoom, Uses};
 ghost use Rattle.server_table.specs.Courses.{Course};
 ghost use Rattle.server_table.specs.Engine.{file_is};
-ghost use Rattle.server_table.specs.Table.{Known};
+ghost use Rattle.server_table.specs.Lookups.{client_here};
+ghost use Rattle.server_table.specs.Table.{Client, Known};
 ghost use Rattle.server_state.specs.Core.{CourseStands, IsSound};
 ghost use Rattle.server_engine.specs.Calls.{MayExchangeNow, StaysReady};
-ghost use Rattle.server_engine.specs.Rests.{HasBegun};
+ghost use Rattle.server_engine.specs.Rests.{HasBegun, HasMade};
 ghost use Rattle.server_engine.specs.internal.Asked.{is_known};
 
 use crate::asking::set_file;
@@ -42,6 +43,7 @@ pub fn know_file<S: ClientSession>(core: &mut ServerCore<S>, i: usize, file: Ccd
     ensures ready { StaysReady S.may_exchange core.old core.new }
     ensures turn_stays { core.new.turn ≡ core.old.turn }
     ensures mark_stays { core.new.mark ≡ core.old.mark }
+    ensures only { core.new ≡ record core.old { clients = core.new.clients } }
 {
     set_file(core, i, ClientFile::Known(file));
 }
@@ -59,10 +61,14 @@ pub fn begin_exchange<S: ClientSession + Drop>(
     requires sound { IsSound S.goes_on S.count S.since core.old }
     ensures begun { (before : List Action) (c : Course) → CourseStands S.stands before core.old out.old c →
         HasBegun S.stands before core.new out.new draw.now core.old.turn.0 c result }
+    ensures made { (before : List Action) (c : Course) (x : Client) → CourseStands S.stands before core.old out.old c → client_here c.table core.old.turn.0 ≡ Some x →
+        HasMade S.stands before core.new out.new draw.now core.old.turn.0 x c result }
     ensures sound { IsSound S.goes_on S.count S.since core.new }
     ensures uses { Uses out.old out.new 7 132 }
     ensures turn_stays { core.new.turn ≡ core.old.turn }
     ensures mark_stays { core.new.mark ≡ core.old.mark }
+    ensures held_stays { core.new.held ≡ core.old.held }
+    ensures room_stays { core.old.routes.spare_rows ≤ core.new.routes.spare_rows }
 {
     server_state::places_tell_of_clients::<S>();
     if !is_known(&core.clients.look_at(i).file) {

@@ -1,6 +1,6 @@
 //! Answers of the TLS engine are given to a client's session.
 
-ghost use Rattle.std.specs.Prelude.{◌≡◌, ◌+◌, ◌<◌, ℕ, List, length, is_some, Some};
+ghost use Rattle.std.specs.Prelude.{◌≡◌, ◌+◌, ◌<◌, ◌≤◌, ℕ, List, length, is_some, Some};
 ghost use Rattle.vpn_links.specs.Actions.{Action};
 ghost use Rattle.client_table.specs.Changes.{place_of};
 ghost use Rattle.client_table.specs.Tables.{entries_of};
@@ -76,6 +76,7 @@ pub fn call_engine<S: ClientSession>(
     ensures uses { Uses out.old out.new room.0 room.1 }
     ensures turn_stays { core.new.turn ≡ core.old.turn }
     ensures mark_stays { core.new.mark ≡ core.old.mark }
+    ensures only { core.new ≡ record core.old { clients = core.new.clients } }
 {
     client_table::lending_sets_the_value::<ClientState<S>>();
     server_state::places_tell_of_clients::<S>();
@@ -97,6 +98,8 @@ pub fn end_if_over<S: ClientSession + Drop>(core: &mut ServerCore<S>, turn: Turn
     ensures uses { Uses out.old out.new 5 39 }
     ensures turn_stays { core.new.turn ≡ core.old.turn }
     ensures mark_stays { core.new.mark ≡ core.old.mark }
+    ensures held_stays { core.new.held ≡ core.old.held }
+    ensures room_stays { core.old.routes.spare_rows ≤ core.new.routes.spare_rows }
 {
     let cid = core.turn;
     match turn {

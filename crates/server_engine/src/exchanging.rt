@@ -102,6 +102,7 @@ pub fn call_exchange<S: ClientSession>(
     ensures uses { Uses out.old out.new 2 93 }
     ensures turn_stays { core.new.turn ≡ core.old.turn }
     ensures mark_stays { core.new.mark ≡ core.old.mark }
+    ensures only { core.new ≡ record core.old { clients = core.new.clients } }
 {
     client_table::lending_sets_the_value::<ClientState<S>>();
     server_state::places_tell_of_clients::<S>();
@@ -133,6 +134,8 @@ pub fn exchange_keys<S: ClientSession + Drop>(
     ensures uses { Uses out.old out.new 7 132 }
     ensures turn_stays { core.new.turn ≡ core.old.turn }
     ensures mark_stays { core.new.mark ≡ core.old.mark }
+    ensures held_stays { core.new.held ≡ core.old.held }
+    ensures room_stays { core.old.routes.spare_rows ≤ core.new.routes.spare_rows }
 {
     let turn = call_exchange(core, i, draw, out);
     end_if_over(core, turn, out);

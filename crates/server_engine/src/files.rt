@@ -1,6 +1,6 @@
 //! Answers for clients' files.
 
-ghost use Rattle.std.specs.Prelude.{◌≡◌, ◌<◌, ◌∷◌, ℕ, Bool, List, Option, length, Some, None};
+ghost use Rattle.std.specs.Prelude.{◌≡◌, ◌<◌, IfSome, ◌∷◌, ℕ, Bool, List, Option, length, Some, None};
 ghost use Rattle.std.specs.Str.{bytes_eq};
 ghost use Rattle.vpn_base.specs.declared.names.Draw.{Draw};
 ghost use Rattle.vpn_links.specs.Actions.{Action};
@@ -68,6 +68,7 @@ fn lack_file<S: ClientSession + Drop>(
     ensures uses { Uses out.old out.new 5 39 }
     ensures turn_stays { core.new.turn ≡ core.old.turn }
     ensures mark_stays { core.new.mark ≡ core.old.mark }
+    ensures same { IfSome result (λ _. (core.new ≡ core.old) × (out.new ≡ out.old)) }
 {
     if core.settings.exclusive {
         core.end(cid, Cause::NoCcd, out);
@@ -96,6 +97,7 @@ fn accept_file<S: ClientSession + Drop>(
     ensures uses { Uses out.old out.new 5 39 }
     ensures turn_stays { core.new.turn ≡ core.old.turn }
     ensures mark_stays { core.new.mark ≡ core.old.mark }
+    ensures same { IfSome result (λ _. (core.new ≡ core.old) × (out.new ≡ out.old)) }
 {
     if file.disable {
         core.end(cid, Cause::Disabled, out);
@@ -126,6 +128,7 @@ fn give_file<S: ClientSession + Drop>(
     ensures uses { Uses out.old out.new 5 39 }
     ensures turn_stays { core.new.turn ≡ core.old.turn }
     ensures mark_stays { core.new.mark ≡ core.old.mark }
+    ensures same { IfSome result (λ _. (core.new ≡ core.old) × (out.new ≡ out.old)) }
 {
     match answer {
         ReadAnswer::Accepted(file) => accept_file(core, cid, file, out),
@@ -160,6 +163,7 @@ pub fn take_file<S: ClientSession + Drop>(
     ensures uses { Uses out.old out.new 5 39 }
     ensures turn_stays { core.new.turn ≡ core.old.turn }
     ensures mark_stays { core.new.mark ≡ core.old.mark }
+    ensures same { IfSome result (λ _. (core.new ≡ core.old) × (out.new ≡ out.old)) }
 {
     server_state::places_tell_of_clients::<S>();
     let Some(i) = core.clients.place(cid) else {

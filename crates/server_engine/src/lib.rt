@@ -23,6 +23,6 @@ pub use exchanging::{call_exchange, exchange_keys};
 pub use files::take_file;
 pub use finding::by_connection;
 pub use going_on::{Rest, go_on, take_plain};
-pub use laws::names_fit;
+pub use laws::{names_fit, names_stay};
 pub use messages::{Waiting, take_message};
 pub use unread::judge_unread;

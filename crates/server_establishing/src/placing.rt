@@ -16,7 +16,7 @@ ghost use Rattle.server_state.specs.Core.{CoreStands, CourseStands, IsSound};
 ghost use Rattle.server_establishing.specs.Ahead.{IsAheadOf, bytes_with, effects_with, held_for, lease_bytes, lease_effects, lease_of, replies_in};
 
 use crate::ahead::{Ahead, LeaseAhead};
-use crate::taking::let_go;
+use crate::taking::give_back_held;
 use ccd_files::Ccd;
 use peer_table::ClientSession;
 use route_table::RouteTable;
@@ -117,7 +117,7 @@ fn establish_at<S: ClientSession + Drop>(
 {
     server_state::places_tell_of_clients::<S>();
     let Some(i) = core.clients.place(cid) else {
-        let_go(core);
+        give_back_held(core);
         return;
     };
     let cipher = cipher_at(core, i);

@@ -11,7 +11,7 @@ ghost use Rattle.server_state.specs.Core.{CoreStands, CourseStands, IsSound};
 ghost use Rattle.server_establishing.specs.Ahead.{IsMadeFor, RepliesStand, held_for, lease_of};
 
 use crate::ahead::{Ahead, LeaseAhead};
-use crate::taking::{hold_address, let_go};
+use crate::taking::{hold_address, give_back_held};
 use ccd_files::Ccd;
 use peer_table::ClientSession;
 use route_table::RouteTable;
@@ -20,7 +20,8 @@ use server_texts::ReplyAhead;
 use std::alloc::Global;
 use vpn_base::{Cid, Ip4, NoMemory, Text};
 
-fn copy_file(alloc: Global, file: &Ccd) -> Result<Ccd, NoMemory>
+/// A copy of what a client's file says.
+pub fn copy_file(alloc: Global, file: &Ccd) -> Result<Ccd, NoMemory>
     ensures { IfOk result (λ copied. copied ≡ file.now) }
 {
     Ok(Ccd {
@@ -105,7 +106,7 @@ fn hold_lease<S: ClientSession>(
     match make_lease(core, alloc, cid, place, file) {
         Ok(lease) => Ok(lease),
         Err(NoMemory) => {
-            let_go(core);
+            give_back_held(core);
             Err(NoMemory)
         }
     }
@@ -176,5 +177,5 @@ pub fn give_up<S: ClientSession>(core: &mut ServerCore<S>, ahead: Ahead)
     ensures only { core.new ≡ record core.old { pool = core.new.pool; held = None } }
 {
     let _ = ahead;
-    let_go(core);
+    give_back_held(core);
 }

@@ -14,7 +14,7 @@ ghost use Rattle.server_state.specs.Core.{CoreStands, CourseStands, FileStands};
 ghost use Rattle.server_establishing.specs.Ahead.{StandsAgain};
 
 use crate::placing::cipher_at;
-use crate::preparing::peer_id_of;
+use crate::preparing::{copy_file, peer_id_of};
 use crate::taking::network_len;
 use ccd_files::Ccd;
 use ovpn_config::Settings;
@@ -49,6 +49,14 @@ fn file_of<'a>(file: &'a ClientFile, none: &'a Ccd) -> &'a Ccd
         ClientFile::AwaitsDefault => none,
         ClientFile::Known(known) => known,
     }
+}
+
+/// A copy of what a client's file says; one that is not known says nothing.
+pub fn copy_known(alloc: Global, file: &ClientFile) -> Result<Ccd, NoMemory>
+    ensures { IfOk result (λ copied. (name : Option (List ℕ)) (s : FileState) → FileStands name file.now s → copied ≡ ccd_in s) }
+{
+    let none = empty_file(alloc);
+    copy_file(alloc, file_of(file, &none))
 }
 
 // The address of an established client with its length.

@@ -177,8 +177,8 @@ pub(crate) fn hold_address<S: ClientSession>(
     }
 }
 
-// Gives back the address that is held, if one is.
-pub(crate) fn let_go<S: ClientSession>(core: &mut ServerCore<S>)
+/// Gives back the address that is held for a client that may be established, if one is.
+pub fn give_back_held<S: ClientSession>(core: &mut ServerCore<S>)
     ensures stands { (t : Table) → CoreStands S.stands core.old t → CoreStands S.stands core.new t }
     ensures only { core.new ≡ record core.old { pool = core.new.pool; held = None } }
 {

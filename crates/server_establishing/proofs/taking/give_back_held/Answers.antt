@@ -1,5 +1,5 @@
 use Rattle.server_establishing.proofs.Held.{back_stands}
-use Rattle.server_establishing.proofs.taking.let_go.Goals as goal
+use Rattle.server_establishing.proofs.taking.give_back_held.Goals as goal
 
 pub returns-in-Some-clause-stands : goal.returns-in-Some-clause-stands
 returns-in-Some-clause-stands g c t h =

@@ -1,0 +1,4 @@
+-- What only private functions cite.
+pub mod Ahead
+pub mod Following
+pub mod Filing
