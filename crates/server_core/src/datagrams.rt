@@ -1,13 +1,14 @@
 //! Datagrams of the line.
 
-ghost use Rattle.std.specs.Prelude.{◌≡◌, ◌≤◌, ◌×◌, ◌^◌, ◌++◌, [], List, length, false, IfOk, OnErr, MatchResult};
+ghost use Rattle.std.specs.Prelude.{◌≡◌, ◌≤◌, ◌^◌, [], Bool, List, length, slice_get, false, IfOk, OnOk, OnErr, MatchResult};
 ghost use Rattle.vpn_links.specs.Actions.{Action, Holds};
 ghost use Rattle.vpn_links.specs.declared.events.Kind.TheVariants.{Datagram};
 ghost use Rattle.opcode_codec.specs.Packet.{packet_of};
 ghost use Rattle.peer_table.specs.Outboxes.{HasRoom};
+ghost use Rattle.server_table.specs.ControlDatagrams as server;
 ghost use Rattle.server_table.specs.Courses.{Course, outs};
 ghost use Rattle.server_table.specs.Runs.{is_free_packet, is_refusal};
-ghost use Rattle.server_table.specs.Step as definitions;
+ghost use Rattle.server_table.specs.Step.{datagram_as};
 ghost use Rattle.server_state.specs.Core.{CourseStands, IsSound, IsSoundAhead, StaysTold};
 
 use opcode_codec::{Opcode, Packet, read_packet};
@@ -43,12 +44,14 @@ fn control_came<S: ClientSession + Drop>(
     requires alone { out.old.staged ≡ [] }
     requires mark { core.old.mark ≡ 0 }
     ensures came { OnOk result ((before : List Action) (c : Course) (lacks : Bool) → CourseStands S.stands before core.old out.old c →
-        CourseStands S.stands before core.new out.new (definitions.control_arrived (record { from = from; bytes = bytes.now; lacks = lacks }) draw.now op c)) }
+        CourseStands S.stands before core.new out.new (server.control_arrived (record { from = from; bytes = bytes.now; lacks = lacks }) draw.now op c)) }
     ensures kept { OnErr result ((before : List Action) (c : Course) → CourseStands S.stands before core.old out.old c →
         CourseStands S.stands before core.new out.new c) }
     ensures sound { MatchResult result (λ _. IsSound S.goes_on S.count S.since core.new) (λ _. IsSoundAhead S.goes_on S.count S.since core.new) }
     ensures still { OnErr result (StaysTold S.since core.old core.new) }
     ensures outbox { OnErr result (Holds out.new out.old.effects out.old.staged) }
+    ensures lacking { OnErr result ((before : List Action) (c : Course) (lacks : Bool) → CourseStands S.stands before core.old out.old c → c.effects ≡ [] →
+        is_refusal (outs (server.control_arrived (record { from = from; bytes = bytes.now; lacks = lacks }) draw.now op c)) ≡ false) }
     ensures length { length buffer.new ≡ length buffer.old }
 {
     copy_in(bytes, buffer);
@@ -56,7 +59,7 @@ fn control_came<S: ClientSession + Drop>(
 }
 
 fn first_of(datagram: &[u8]) -> Option<u8>
-    ensures { result ≡ definitions.first_of datagram.now }
+    ensures { result ≡ server.first_of datagram.now }
 {
     datagram.first().copied()
 }
@@ -90,7 +93,7 @@ pub(crate) fn datagram_came<S: ClientSession + Drop>(
     ensures sound { MatchResult result (λ _. IsSound S.goes_on S.count S.since core.new) (λ _. IsSoundAhead S.goes_on S.count S.since core.new) }
     ensures still { OnErr result (StaysTold S.since core.old core.new) }
     ensures outbox { OnErr result (Holds out.new out.old.effects out.old.staged) }
-    ensures lacking { OnErr result ((before : List Action) (c : Course) (lacks : Bool) → CourseStands S.stands before core.old out.old c → c.effects ≡ [] → c.staged ≡ [] →
+    ensures lacking { OnErr result ((before : List Action) (c : Course) (lacks : Bool) → CourseStands S.stands before core.old out.old c → c.effects ≡ [] →
         (is_free_packet (packet_of bytes.now) ≡ false)
         × (is_refusal (outs (datagram_as (record { from = from; bytes = bytes.now; lacks = lacks }) draw.now c (packet_of bytes.now))) ≡ false)) }
     ensures length { length buffer.new ≡ 65536 }

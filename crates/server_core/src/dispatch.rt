@@ -8,6 +8,7 @@ ghost use Rattle.server_table.specs.Courses.{Course, outs};
 ghost use Rattle.server_table.specs.Engine as definitions;
 ghost use Rattle.server_table.specs.Runs.{is_free_kind, is_refusal};
 ghost use Rattle.server_table.specs.Step.{came};
+ghost use Rattle.server_core.specs.internal.{lacking_none};
 ghost use Rattle.server_state.specs.Core.{CourseStands, IsSound, IsSoundAhead, StaysTold};
 
 use crate::beginning::halt;
@@ -20,7 +21,7 @@ use server_state::{ServerCore, a_core_ahead_is_sound};
 use server_time::tick;
 use std::alloc::Global;
 use vpn_base::{Conn, Draw, NoMemory};
-use vpn_links::{Kind, Outbox};
+use vpn_links::{Kind, Note, Outbox};
 
 // The client that has an engine connection ends with it, for which there may be no memory; a connection of no
 // client is reported.
@@ -55,6 +56,16 @@ fn engine_down<S: ClientSession + Drop>(
     Ok(())
 }
 
+// What was done lacked no host.
+fn told(done: Result<(), NoMemory>) -> Result<bool, NoMemory>
+    ensures { result ≡ lacking_none done }
+{
+    match done {
+        Ok(()) => Ok(false),
+        Err(NoMemory) => Err(NoMemory),
+    }
+}
+
 /// An event comes, which counts already. The answer is whether there was no memory to learn a host of it. After
 /// want of memory nothing has changed, and the event was not one that takes none.
 pub(crate) fn came<S: ClientSession + Drop>(
@@ -87,30 +98,29 @@ pub(crate) fn came<S: ClientSession + Drop>(
     a_core_ahead_is_sound::<S>();
     match kind {
         Kind::Datagram { from, bytes } => {
-            return datagram_came(core, alloc, *from, bytes, kind, draw, buffer, out);
+            datagram_came(core, alloc, *from, bytes, kind, draw, buffer, out)
         }
-        Kind::EngineText { conn, .. } => engine_answered(core, alloc, draw, *conn, kind, out),
-        Kind::EnginePlain { conn, .. } => engine_answered(core, alloc, draw, *conn, kind, out),
-        Kind::EngineUp { conn, .. } => engine_answered(core, alloc, draw, *conn, kind, out),
-        Kind::EngineDown { conn } => engine_down(core, *conn, out),
+        Kind::EngineText { conn, .. } => told(engine_answered(core, alloc, draw, *conn, kind, out)),
+        Kind::EnginePlain { conn, .. } => told(engine_answered(core, alloc, draw, *conn, kind, out)),
+        Kind::EngineUp { conn, .. } => told(engine_answered(core, alloc, draw, *conn, kind, out)),
+        Kind::EngineDown { conn } => told(engine_down(core, *conn, out)),
         Kind::DeviceIn { bytes } => {
             core.device_came(bytes, out);
-            Ok(())
+            Ok(false)
         }
         Kind::DeviceReady => {
             core.device_ready(out);
-            Ok(())
+            Ok(false)
         }
-        Kind::File { cid, answer } => file_came(core, alloc, draw, *cid, answer, out),
+        Kind::File { cid, answer } => told(file_came(core, alloc, draw, *cid, answer, out)),
         Kind::Line { bytes } => {
             line_came(core, bytes, out);
-            Ok(())
+            Ok(false)
         }
-        Kind::Tick => tick(core, out),
+        Kind::Tick => told(tick(core, out)),
         Kind::Halt => {
             halt(core, out);
-            Ok(())
+            Ok(false)
         }
     }
-    ...
 }

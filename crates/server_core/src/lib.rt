@@ -2,7 +2,9 @@
 #![tactic(auto)]
 
 mod beginning;
+mod datagrams;
+mod dispatch;
 mod lines;
+mod server;
 
-pub use beginning::{begin, halt, is_over};
-pub use lines::line_came;
+pub use server::Server;

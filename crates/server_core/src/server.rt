@@ -1,6 +1,8 @@
 //! A server that takes events, one at a time.
 
-ghost use Rattle.std.specs.Prelude.{◌≡◌, ◌≤◌, ◌+◌, ◌^◌, [], Bool, List, length, OnOk, OnErr, IfOk};
+ghost use Rattle.std.specs.Prelude.{◌≡◌, ◌≤◌, [], List, length, option_map, OnOk, OnErr, IfOk};
+ghost use Rattle.ovpn_config.specs.Bounds.{IsBounded};
+ghost use Rattle.vpn_base.specs.declared.names.Role.TheVariants as roles;
 ghost use Rattle.vpn_links.specs.Actions as links;
 ghost use Rattle.vpn_links.specs.Actions.{Action, Contents, Holds};
 ghost use Rattle.vpn_links.specs.Rounds.{IsOfLine};
@@ -8,7 +10,7 @@ ghost use Rattle.vpn_links.specs.Steps.{LacksAll, Stepped};
 ghost use Rattle.vpn_links.specs.declared.events.Event.{Event};
 ghost use Rattle.server_table.specs.Runs.{MayLack};
 ghost use Rattle.server_table.specs.Step.{course_begun};
-ghost use Rattle.server_table.specs.Table.{Table};
+ghost use Rattle.server_table.specs.Table.{Table, table_begun};
 ghost use Rattle.server_state.specs.Core.{CoreStands, CourseStands, IsSound, IsSoundAhead, NoneIsLater};
 ghost use Rattle.server_core.specs.Steps.{next_table, told_of};
 
@@ -24,6 +26,15 @@ use tls_crypt::StaticKey;
 use vpn_base::{Cid, Moment, NoMemory};
 use vpn_links::{Event, Machine, Outbox};
 
+// Room for the longest datagram.
+fn make_buffer(alloc: Global) -> Result<Vec<u8>, NoMemory>
+    ensures { IfOk result (λ buffer. length buffer.items ≡ 65536) }
+{
+    let mut buffer = Vec::new(alloc);
+    buffer.resize(LONGEST, 0)?;
+    Ok(buffer)
+}
+
 // The room of an outbox that was made, which events that take no memory need.
 const EFFECTS: usize = 4;
 const BYTES: usize = 4_096;
@@ -34,13 +45,12 @@ fn take_back<S: ClientSession>(
     moment: Moment,
     last_taken: Option<(Cid, u64)>,
 )
-    requires counted { 1 ≤ core.old.events }
     ensures back { (before : List Action) (out : Contents) (t : Table) (event : Event) → CourseStands S.stands before core.old out (course_begun t event) → moment.0 ≡ t.moment →
         option_map (λ went. (went.0.0, went.1)) last_taken ≡ t.last_taken → CoreStands S.stands core.new t }
     ensures sound { IsSoundAhead S.goes_on S.count S.since core.old → NoneIsLater S.since moment.0 core.old → IsSound S.goes_on S.count S.since core.new }
 {
     core.moment = moment;
-    core.events -= 1;
+    core.events = core.events.saturating_sub(1);
     core.last_taken = last_taken;
 }
 
@@ -114,7 +124,7 @@ impl<S: ClientSession + Drop> Server<S> {
         ensures made { IfOk result (λ server. CoreStands S.stands server (table_begun settings key.0)) }
     {
         let core = ServerCore::make(alloc, settings, key)?;
-        let buffer = buffer_of(alloc, LONGEST)?;
+        let buffer = make_buffer(alloc)?;
         Ok(Server { alloc, core, buffer })
     }
 }
