@@ -1,6 +1,5 @@
 use Rattle.std.proofs.Common.{sym, ◌∙◌}
 use Rattle.server_answers.proofs.Followed.{behind_exchange, nobody_left_made, none_at, not_nobody_made, takes_at}
-use Rattle.server_answers.proofs.Room.{room_made, uses_made}
 use Rattle.server_answers.proofs.exchanged.finish_exchange.Goals as goal
 
 pub returns-in-None-clause-gone : goal.returns-in-None-clause-gone
@@ -25,13 +24,3 @@ returns-in-Some-clause-gone g c before course h none =
     let core = c.args.core.now in
     not_nobody_made g.S.ClientSession.stands before core c.take_messages.new.core c.take_messages.new.out core.turn.0 c.in-Some.field-0 course
     (c.places_tell_of_clients.ensures.there core course.table core.turn.0 c.in-Some.field-0 h.table (sym c.place.ensures.place ∙ c.in-Some.is)) none
-
-pub returns-in-Some-clause-uses : goal.returns-in-Some-clause-uses
-returns-in-Some-clause-uses g c =
-    let first = c.establish_as_asked-prepared in
-    uses_made c.args.prepared first.result c.args.left c.args.out.now first.new.out first.ensures.less first.ensures.uses c.take_messages.new.out c.take_messages.ensures.uses
-
-pub take_messages-requires-clause-room : goal.take_messages-requires-clause-room
-take_messages-requires-clause-room g c =
-    let first = c.establish_as_asked-prepared in
-    room_made c.args.prepared first.result c.args.left c.args.out.now first.new.out first.ensures.less first.ensures.uses c.requires.room
