@@ -8,3 +8,6 @@ mod Ends
 mod Finished
 mod Lines
 mod Resets
+mod Found
+mod Exchanging
+mod Secrets

@@ -3,6 +3,7 @@
 
 mod begin;
 mod closing;
+mod exchange;
 mod looks;
 mod messages;
 mod name;
