@@ -9,5 +9,7 @@ mod Finished
 mod Lines
 mod Resets
 mod Found
+mod Exchanged
 mod Exchanging
+mod ExchangeSteps
 mod Secrets

@@ -67,8 +67,8 @@ fn server_source(draw: &Draw) -> Source
     }
 }
 
-// The source with a pre-master secret. Where it has none, as that of a server, the secret is empty, and HMAC cannot
-// tell an empty key from zeros.
+// The source with a pre-master secret. That of a server has none, which counts as an empty one, and an empty key is the
+// same to HMAC as one of zeros.
 fn with_pre(source: &Source) -> Source
     ensures pre { IsSome result.pre }
     ensures block { (own : Source) (client_sid server_sid : List ℕ) →
@@ -84,7 +84,7 @@ fn with_pre(source: &Source) -> Source
     }
 }
 
-// Of a session without keys nothing was read.
+// Of a session without keys nothing was read, as what belongs to it tells.
 fn nothing_is_read_before_keys(slots: &Slots<SessionChannels>, number: u64)
     requires { IsWhole slots.now }
     ensures { (ss : List Session) (s : Session) → SlotsStand StandsFor slots.now ss → slice_get ss number ≡ Some s → has_keys s ≡ false → s.read ≡ 0 }
@@ -239,7 +239,8 @@ fn close_given(given: Option<SessionChannels>, out: &mut Outbox)
 
 impl<W: Wrap + Drop> PeerSession<W> {
     /// Makes the key exchange of the newest key session, and does nothing where it is not prepared. What is
-    /// sealed under its keys carries this peer id. The server's key source is taken from the draw.
+    /// sealed under its keys carries this peer id. The server's key source is taken from the draw. The client is over
+    /// where it offers no cipher of the policy. Memory can only be wanted for the outbox: 2 effects and 93 bytes.
     pub fn exchange(
         &mut self,
         policy: &Policy,
@@ -304,7 +305,7 @@ impl<W: Wrap + Drop> PeerSession<W> {
 
     // Whether the client asks to be established without a push request, once this peer info came in the session of
     // this number.
-    #[tactic(auto, using(crate::proofs::Exchanging::asks_later), unfolding(crate::specs::Standing::PeerStands))]
+    #[tactic(auto, using(crate::proofs::ExchangeSteps::asks_later), unfolding(crate::specs::Standing::PeerStands))]
     fn asks_with(&self, number: u64, info: &[u8]) -> bool
         ensures { (p : Peer) → PeerStands W.wrapped self.now p → result ≡ asks_with number info.now p }
     {
@@ -350,14 +351,7 @@ impl<W: Wrap + Drop> PeerSession<W> {
             remote,
             self.own,
         );
-        write_message(
-            &mut self.slots,
-            self.role,
-            peer_id,
-            own,
-            prepared.used,
-            out,
-        );
+        write_message(&mut self.slots, self.role, peer_id, own, prepared.used, out);
         close_given(closed, out);
         self.asks_push = prepared.asks_push;
         Ok(())

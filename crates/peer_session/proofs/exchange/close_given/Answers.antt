@@ -2,7 +2,7 @@ use Rattle.std.proofs.Common.{Option, subst, arith}
 use Rattle.peer_lines.specs.declared.channels.SessionChannels.{SessionChannels}
 use Rattle.peer_session.specs.internal.Exchanges.{IsTextOf}
 use Rattle.peer_session.proofs.Ends.{ok_value}
-use Rattle.peer_session.proofs.Exchanging.{none_closed, one_closed_is}
+use Rattle.peer_session.proofs.ExchangeSteps.{none_closed, one_closed_is}
 use Rattle.peer_session.proofs.exchange.close_given.Goals as goal
 
 pub returns-in-None-clause-closed : goal.returns-in-None-clause-closed

@@ -7,7 +7,7 @@ use Rattle.key_sessions.specs.Sessions.{keys_made}
 use Rattle.key_sessions.specs.Slots.{SlotsStand}
 use Rattle.peer_lines.specs.Standing.{StandsFor}
 use Rattle.peer_session.specs.internal.Exchanges.{IsTextOf}
-use Rattle.peer_session.proofs.Exchanging.{if_some, text_of}
+use Rattle.peer_session.proofs.ExchangeSteps.{if_some, text_of}
 use Rattle.peer_session.proofs.exchange.make_keys.Goals as goal
 
 pub returns-in-Ok-clause-made : goal.returns-in-Ok-clause-made

@@ -1,7 +1,7 @@
 use Rattle.std.proofs.Common.{ap, sym, ◌∙◌}
 use Rattle.std.specs.Prelude.{option_map}
 use Rattle.key_sessions.specs.Looks.{keys_of_some}
-use Rattle.peer_session.proofs.Exchanging.{keys_are, no_keys}
+use Rattle.peer_session.proofs.ExchangeSteps.{keys_are, no_keys}
 use Rattle.peer_session.proofs.exchange.write_in.Goals as goal
 
 pub returns-in-None-clause-written : goal.returns-in-None-clause-written

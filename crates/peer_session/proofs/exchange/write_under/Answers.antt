@@ -4,7 +4,7 @@ use Rattle.peer_table.specs.KeySessions.{Session}
 use Rattle.peer_lines.specs.Calls.{with_read}
 use Rattle.peer_lines.specs.Standing.{StandsFor}
 use Rattle.peer_session.proofs.Ends.{ok_value}
-use Rattle.peer_session.proofs.Exchanging.{kid_fits}
+use Rattle.peer_session.proofs.ExchangeSteps.{kid_fits}
 use Rattle.peer_session.proofs.Keeping.{not_there}
 use Rattle.peer_session.proofs.exchange.write_under.Goals as goal
 

@@ -16,7 +16,9 @@ use Rattle.peer_lines.specs.Standing.{StandsFor}
 use Rattle.peer_session.specs.Standing.{PeerStands}
 use Rattle.peer_session.specs.declared.exchange.Prepared.{Prepared}
 use Rattle.peer_session.specs.internal.Exchanges.{IsTextOf}
-use Rattle.peer_session.proofs.Exchanging.{exchange_count, exchange_goes_on, exchange_leaves, keyed_now, same_keys}
+use Rattle.peer_session.proofs.ExchangeSteps.{same_keys}
+use Rattle.peer_session.proofs.Exchanged.{keyed_now}
+use Rattle.peer_session.proofs.Exchanging.{exchange_count, exchange_goes_on, exchange_leaves}
 use Rattle.peer_session.proofs.Found.{PreparedAt, prepared_at}
 use Rattle.peer_session.proofs.Keeping.{sound_at, whole_of}
 use Rattle.peer_session.proofs.Waits.{newest_at, newest_number_is}

@@ -3,7 +3,7 @@ use Rattle.std.specs.Prelude.{option_map}
 use Rattle.key_sessions.specs.declared.slot.Newest.{Newest}
 use Rattle.peer_session.specs.Standing.{PeerStands}
 use Rattle.peer_session.specs.internal.Exchanges.{prepared_as}
-use Rattle.peer_session.proofs.Exchanging.{whatever_some}
+use Rattle.peer_session.proofs.ExchangeSteps.{whatever_some}
 use Rattle.peer_session.proofs.Waits.{keyed_none, named_message, named_of, newest_at, newest_number_is, opening_none}
 use Rattle.peer_session.proofs.session.PeerSession.look.Goals as goal
 
