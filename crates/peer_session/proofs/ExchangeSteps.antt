@@ -1,44 +1,24 @@
 -- The steps of a key exchange.
-use Rattle.std.proofs.Common.{◌≡◌, ◌≢◌, ℕ, zero, suc, ◌+◌, ◌<◌, ◌≤◌, Bool, true, false, List, [], ◌∷◌, ◌++◌, length, Option, Some, None, Bor, refl, ap, sym, subst, ◌∙◌, arith}
-use Rattle.std.specs.Prelude.{slice_get, is_some, option_map, IfSome}
+use Rattle.std.proofs.Common.{◌≡◌, ◌≢◌, ℕ, zero, suc, ◌<◌, Bool, true, false, List, [], ◌∷◌, ◌++◌, Option, Some, None, Bor, refl, ap, sym, ◌∙◌, arith}
+use Rattle.std.specs.Prelude.{is_some, IfSome}
 use Rattle.std.proofs.lemmas.Bool.{false≢true}
-use Rattle.std.proofs.lemmas.List.{append-nil}
 use Rattle.std.proofs.lemmas.Option.{none-some}
-use Rattle.vpn_base.specs.declared.address.Addr.{Addr}
 use Rattle.vpn_base.specs.declared.names.Cipher.{Cipher}
-use Rattle.vpn_base.specs.declared.names.Draw.{Draw}
-use Rattle.vpn_base.specs.declared.names.Policy.{Policy}
 use Rattle.vpn_base.specs.declared.names.Role.{Role}
 use Rattle.vpn_base.specs.declared.names.Sid.{Sid}
 use Rattle.vpn_links.specs.Actions.{Contents, Holds}
-use Rattle.tls_crypt.specs.Packets.{Wrapping}
-use Rattle.control_link.specs.Calls.{datagrams_to}
-use Rattle.control_link.specs.Links.{Link}
-use Rattle.key_method2.specs.declared.message.Km2.{Km2}
 use Rattle.key_method2.specs.declared.message.Source.{Source}
-use Rattle.key_method2.specs.Messages.{server_message}
-use Rattle.peer_table.specs.EngineAnswers.{prepared_message}
-use Rattle.peer_table.specs.Exchange.{asks_with, chosen, closing, exchanged, exchanged_from, exchanged_with, is_open_keyed, oldest_of, server_source, session_closed, writing}
+use Rattle.peer_table.specs.Exchange.{asks_with, closing}
 use Rattle.peer_table.specs.KeySessions.{Keys, Session, closed, has_keys, is_keyed, kid_of, newest, newest_session, newest_usable, session_at}
 use Rattle.peer_table.specs.KeySessions as sessions
-use Rattle.peer_table.specs.Outboxes.{Leaves, actions_of}
-use Rattle.peer_table.specs.Peer.{Closes, Doing, Outcome, Peer, Writes, answered, remote_of}
-use Rattle.peer_table.specs.Places.{before_if, changed_at, last_place, later, places_from}
-use Rattle.peer_table.specs.declared.outcomes.Turn.{Turn}
-use Rattle.peer_table.specs.declared.outcomes.Turn.TheVariants.{Going}
-use Rattle.key_sessions.specs.Changes.{closed_in, exchanged_in, newest_keyed, one_closed, one_too_many}
-use Rattle.key_sessions.specs.Sessions.{keys_if, keys_made, keys_shown, restaged}
-use Rattle.key_sessions.specs.declared.slots.Slots.{Slots}
-use Rattle.key_sessions.specs.Slots.{IsWhole, SlotsStand, newest_number}
-use Rattle.peer_lines.specs.Calls.{with_read}
+use Rattle.peer_table.specs.Outboxes.{actions_of}
+use Rattle.peer_table.specs.Peer.{Closes, Peer}
+use Rattle.peer_table.specs.Places.{later}
+use Rattle.key_sessions.specs.Sessions.{keys_if, keys_made, keys_shown}
 use Rattle.peer_lines.specs.Standing.{StandsFor}
 use Rattle.peer_lines.specs.declared.channels.SessionChannels.{SessionChannels}
-use Rattle.peer_session.specs.declared.session.PeerSession.{PeerSession}
-use Rattle.peer_session.specs.declared.exchange.Prepared.{Prepared}
-use Rattle.peer_session.specs.internal.Exchanges.{IsTextOf, prepared_as}
-use Rattle.peer_session.specs.Standing.{EachGoesOn, EachGoesOnUnless, EachIsSound, GoesOn, IsPeerOf, IsSound, PeerStands, count}
-use Rattle.peer_session.proofs.Ends.{nothing_done, only_done, then_done}
-use Rattle.peer_session.proofs.Found.{PreparedAt}
+use Rattle.peer_session.specs.internal.Exchanges.{IsTextOf}
+use Rattle.peer_session.proofs.Ends.{nothing_done}
 
 -- ---- what is taken of the message
 

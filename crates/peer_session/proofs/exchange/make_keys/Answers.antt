@@ -1,6 +1,5 @@
-use Rattle.std.proofs.Common.{◌≡◌, List, ℕ, Some, refl, ap, sym, subst, ◌∙◌}
+use Rattle.std.proofs.Common.{◌≡◌, List, ℕ, refl, ap, subst}
 use Rattle.std.proofs.lemmas.Bool.{false≢true}
-use Rattle.vpn_base.specs.declared.names.Cipher.{Cipher}
 use Rattle.peer_table.specs.KeySessions.{Keys}
 use Rattle.key_sessions.specs.Changes.{exchanged_in, newest_keyed, one_closed}
 use Rattle.key_sessions.specs.Sessions.{keys_made}

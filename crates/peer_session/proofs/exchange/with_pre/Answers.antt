@@ -1,4 +1,3 @@
-use Rattle.std.proofs.Common.{refl}
 use Rattle.peer_session.proofs.Secrets.{same_block}
 use Rattle.peer_session.proofs.exchange.with_pre.Goals as goal
 

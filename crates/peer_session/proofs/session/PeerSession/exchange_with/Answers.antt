@@ -21,7 +21,7 @@ use Rattle.peer_session.proofs.Exchanged.{keyed_now}
 use Rattle.peer_session.proofs.Exchanging.{exchange_count, exchange_goes_on, exchange_leaves}
 use Rattle.peer_session.proofs.Found.{PreparedAt, prepared_at}
 use Rattle.peer_session.proofs.Keeping.{sound_at, whole_of}
-use Rattle.peer_session.proofs.Waits.{newest_at, newest_number_is}
+use Rattle.peer_session.proofs.Waits.{newest_at}
 use Rattle.peer_session.proofs.session.PeerSession.exchange_with.Goals as goal
 
 pub nothing_is_read_before_keys-requires : goal.nothing_is_read_before_keys-requires

@@ -1,9 +1,8 @@
-use Rattle.std.proofs.Common.{◌≡◌, ℕ, Bool, Option, Some, None, ap, sym, ◌∙◌}
+use Rattle.std.proofs.Common.{ℕ, Bool, Option, Some, ap, sym, ◌∙◌}
 use Rattle.std.specs.Prelude.{option_map}
 use Rattle.vpn_base.specs.declared.names.Cipher.{Cipher}
 use Rattle.key_method2.specs.Views.{message_seen}
 use Rattle.peer_table.specs.Exchange.{asks_with}
-use Rattle.peer_session.specs.declared.exchange.Prepared.{Prepared}
 use Rattle.peer_session.specs.internal.Exchanges.{prepared_as}
 use Rattle.peer_session.proofs.session.PeerSession.look_in.Goals as goal
 
