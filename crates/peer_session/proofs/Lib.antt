@@ -13,3 +13,8 @@ mod Retired
 mod RetiredCalls
 mod RetiredExchange
 mod RetiredTicks
+mod Found
+mod Exchanged
+mod Exchanging
+mod ExchangeSteps
+mod Secrets

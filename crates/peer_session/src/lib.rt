@@ -4,6 +4,7 @@
 mod begin;
 mod closing;
 mod laws;
+mod exchange;
 mod looks;
 mod messages;
 mod name;
