@@ -8,3 +8,8 @@ mod Ends
 mod Finished
 mod Lines
 mod Resets
+mod Pieces
+mod NextTurns
+mod Saying
+mod Names
+mod Answered
