@@ -128,9 +128,9 @@ pub room_left : {W : Type 0} (session : PeerSession W) (text : ℕ) (was is_now 
 room_left session text was is_now effects room takes has uses =
     let effects_fit = takes.effects_fit in
     let bytes_fit = takes.bytes_fit in (
-  record { effects_fit = omega (arith, effects_fit, has.effects_fit, uses.effects_left); bytes_fit = omega (arith, bytes_fit, has.bytes_fit, uses.bytes_left) },
-  record { effects_left = omega (arith, effects_fit, uses.effects_left); bytes_left = omega (arith, bytes_fit, uses.bytes_left) },
-)
+      record { effects_fit = omega (arith, effects_fit, has.effects_fit, uses.effects_left); bytes_fit = omega (arith, bytes_fit, has.bytes_fit, uses.bytes_left) },
+      record { effects_left = omega (arith, effects_fit, uses.effects_left); bytes_left = omega (arith, bytes_fit, uses.bytes_left) },
+    )
 
 -- there is room for the text itself
 pub room_there : {W : Type 0} (session : PeerSession W) (text : ℕ) (was : Contents) (effects room : ℕ) → TakesText session text effects room → HasRoom was effects room → HasRoom was 6 7200

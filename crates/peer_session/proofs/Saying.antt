@@ -148,11 +148,11 @@ pub say_leaves : {W A : Type 0} (wrapped : W → Wrapping) (before : PeerSession
 unfolding text_offered
 say_leaves wrapped before env taken slots p n s bytes remote now text was is_now to r turn over turn_is over_is remote_is is each stands at put told left =
     let base = line_leaves wrapped before env taken slots p n s (said s.link p.envelope bytes remote now) text was is_now to r is each stands at put
-        (said_keeps s.link p.envelope bytes remote now) told left in
+    (said_keeps s.link p.envelope bytes remote now) told left in
     let by_remote = subst (λ (id : Sid). LeavesUnless (turn_told r) (PeerStands wrapped) (record before { envelope = env; slots = slots; is_over = is_over (turn_told r) }) was is_now to p
-        (gone_on n (said s.link p.envelope bytes id now) (answered p Going))) remote_is base in
+    (gone_on n (said s.link p.envelope bytes id now) (answered p Going))) remote_is base in
     let by_turn = subst (λ (t : Result Turn NoMemory). LeavesUnless t (PeerStands wrapped) (record before { envelope = env; slots = slots; is_over = is_over t }) was is_now to p
-        (gone_on n (said s.link p.envelope bytes (remote_of p) now) (answered p Going))) (sym turn_is) by_remote in
+    (gone_on n (said s.link p.envelope bytes (remote_of p) now) (answered p Going))) (sym turn_is) by_remote in
     subst (λ (b : Bool). LeavesUnless turn (PeerStands wrapped) (record before { envelope = env; slots = slots; is_over = b }) was is_now to p
     (gone_on n (said s.link p.envelope bytes (remote_of p) now) (answered p Going))) (sym over_is) by_turn
 
@@ -185,7 +185,7 @@ pub say_goes_on : {W A : Type 0} (before : PeerSession W) (env : Envelope W) (sl
     (λ _. GoesOn (record before { envelope = env; slots = slots; is_over = over }))
 say_goes_on before env slots r turn over turn_is over_is goes whole =
     let by_turn = subst (λ (t : Result Turn NoMemory). MatchResult t (GoesOnUnlessOver (GoesOn (record before { envelope = env; slots = slots; is_over = is_over t })))
-        (λ _. GoesOn (record before { envelope = env; slots = slots; is_over = is_over t }))) (sym turn_is) (line_goes_on before env slots r goes whole) in
+    (λ _. GoesOn (record before { envelope = env; slots = slots; is_over = is_over t }))) (sym turn_is) (line_goes_on before env slots r goes whole) in
     subst (λ (b : Bool). MatchResult turn (GoesOnUnlessOver (GoesOn (record before { envelope = env; slots = slots; is_over = b })))
     (λ _. GoesOn (record before { envelope = env; slots = slots; is_over = b }))) (sym over_is) by_turn
 

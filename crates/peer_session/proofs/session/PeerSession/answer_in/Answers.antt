@@ -28,7 +28,7 @@ pub returns-in-EnginePlain-clause-answer : goal.returns-in-EnginePlain-clause-an
 returns-in-EnginePlain-clause-answer g c =
     answers_in c.plain_at.result (PeerStands g.W.Wrap.wrapped c.args.self.now) c.args.kind.now c.args.number c.args.now.0 (plain_came c.args.number c.as_slice-in-EnginePlain.result.now)
     (λ p. plain_in c.args.kind.now c.in-EnginePlain.conn c.in-EnginePlain.bytes c.as_slice-in-EnginePlain.result.now c.args.number c.args.now.0 p c.in-EnginePlain.is
-        c.as_slice-in-EnginePlain.ensures)
+    c.as_slice-in-EnginePlain.ensures)
     c.plain_at.ensures.answer
 
 pub returns-in-EnginePlain-clause-fits : goal.returns-in-EnginePlain-clause-fits

@@ -43,10 +43,10 @@ unfolding PeerStands
 returns-in-Some-clause-answer g c =
     say_answers g.W.Wrap.wrapped c.args.self.now c.args.number c.args.bytes.now c.args.now.0 c.say-said.result c.turn_told-turn.result c.turn_told-turn.ensures
     (λ p s stands at.
-        let each = each_goes g.W.Wrap.wrapped c.args.self.now p c.requires stands in
-        let text_stands = c.in-Some.ensures.text p.sessions s stands.slots_stand at in
-        say_told c.say-said.result p s c.args.bytes.now c.remote_sent-remote.result c.args.now.0 (c.remote_sent-remote.ensures p stands)
-        (c.say-said.ensures.answer s p.envelope text_stands (goes_at p.sessions c.args.number s each at) stands.envelope_stands))
+    let each = each_goes g.W.Wrap.wrapped c.args.self.now p c.requires stands in
+    let text_stands = c.in-Some.ensures.text p.sessions s stands.slots_stand at in
+    say_told c.say-said.result p s c.args.bytes.now c.remote_sent-remote.result c.args.now.0 (c.remote_sent-remote.ensures p stands)
+    (c.say-said.ensures.answer s p.envelope text_stands (goes_at p.sessions c.args.number s each at) stands.envelope_stands))
 
 pub returns-in-Some-clause-goes_on : goal.returns-in-Some-clause-goes_on
 returns-in-Some-clause-goes_on g c =
