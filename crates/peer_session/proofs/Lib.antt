@@ -13,3 +13,8 @@ mod NextTurns
 mod Saying
 mod Names
 mod Answered
+mod Retiring
+mod Retired
+mod RetiredCalls
+mod RetiredExchange
+mod RetiredTicks

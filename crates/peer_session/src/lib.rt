@@ -4,6 +4,7 @@
 mod begin;
 mod closing;
 mod engine;
+mod laws;
 mod looks;
 mod messages;
 mod name;
@@ -17,4 +18,5 @@ mod session;
 mod ticks;
 mod turns;
 
+pub use laws::retired_sessions_stay_retired;
 pub use session::PeerSession;
