@@ -8,6 +8,11 @@ mod Ends
 mod Finished
 mod Lines
 mod Resets
+mod Pieces
+mod NextTurns
+mod Saying
+mod Names
+mod Answered
 mod Retiring
 mod Retired
 mod RetiredCalls

@@ -3,3 +3,4 @@ pub mod OpenOnes
 pub mod Beginnings
 pub mod Finished
 pub mod Exchanges
+pub mod Turns

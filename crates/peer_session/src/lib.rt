@@ -3,16 +3,21 @@
 
 mod begin;
 mod closing;
+mod engine;
 mod laws;
 mod exchange;
 mod looks;
 mod messages;
 mod name;
+mod named;
 mod numbers;
 mod packets;
+mod plain;
 mod ready;
+mod said;
 mod session;
 mod ticks;
+mod turns;
 
 pub use laws::retired_sessions_stay_retired;
 pub use session::PeerSession;
