@@ -9,6 +9,7 @@ mod name;
 mod numbers;
 mod packets;
 mod ready;
+mod rooms;
 mod session;
 mod ticks;
 
