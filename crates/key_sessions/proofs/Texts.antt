@@ -14,7 +14,7 @@ is_none (Some t) is = absurd (false≢true is)
 -- none at one number more
 pub none_further : {T : Type 0} (slots : Slots T) (from to next : ℕ) → NoText slots from to → false ≡ is_some (text_at slots to) → next ≡ to + 1 → NoText slots from next
 none_further slots from to next none here more n reached below = elim (cases_lt n to) [
-  inl before ↦ none n reached before
+  | inl before ↦ none n reached before
   | inr not_before ↦ let same : to ≡ n = omega (arith, below, more, not_before) in subst (λ (k : ℕ). text_at slots k ≡ None) same (is_none (text_at slots to) here)
 ]
 

@@ -8,4 +8,4 @@ mod Ends
 mod Finished
 mod Lines
 mod Resets
-mod Rooms
+mod Reserved

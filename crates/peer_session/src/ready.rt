@@ -16,7 +16,9 @@ use vpn_links::Kind;
 // For how many effects and bytes an outbox has to have room: for a key exchange, for text of the engine before one, and
 // for a tick.
 const EXCHANGE: (usize, usize) = (2, 93);
+
 const TEXT: (usize, usize) = (8, 7_293);
+
 const TICK: (usize, usize) = (26, 28_800);
 
 // For how many effects of a control packet.

@@ -23,6 +23,7 @@ fn least_bytes(payload: usize) -> Option<usize>
 impl<W: Wrap + Drop> PeerSession<W> {
     // Takes room in each text from this number on: for a payload, for text for the other end and for plain text, each
     // of so many bytes.
+    #[tactic(auto, unfolding(crate::specs::Standing::count))]
     pub(crate) fn reserve_from(
         &mut self,
         from: u64,
@@ -81,6 +82,7 @@ impl<W: Wrap + Drop> PeerSession<W> {
 
     // For how many bytes an outbox has to have room, so that a control packet with a payload of so many bytes takes no
     // memory in any of the texts from this number on, nor in a new one. None comes where that is no number of bytes.
+    #[tactic(auto, unfolding(crate::specs::Standing::count))]
     pub(crate) fn bytes_from(&self, from: u64, payload: usize) -> Option<usize>
         requires { count self.now < 2 ^ 64 - 1 }
         ensures each { IfSome result (λ bytes. EachFrom from (SendsWithin payload bytes) self.now.slots) }
