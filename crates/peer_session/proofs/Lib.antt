@@ -9,3 +9,8 @@ mod Finished
 mod Lines
 mod Resets
 mod Reserved
+mod Retiring
+mod Retired
+mod RetiredCalls
+mod RetiredExchange
+mod RetiredTicks

@@ -3,6 +3,7 @@
 
 mod begin;
 mod closing;
+mod laws;
 mod looks;
 mod messages;
 mod name;
@@ -13,4 +14,5 @@ mod rooms;
 mod session;
 mod ticks;
 
+pub use laws::retired_sessions_stay_retired;
 pub use session::PeerSession;
