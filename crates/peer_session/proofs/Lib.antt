@@ -13,6 +13,7 @@ mod NextTurns
 mod Saying
 mod Names
 mod Answered
+mod Reserved
 mod Retiring
 mod Retired
 mod RetiredCalls

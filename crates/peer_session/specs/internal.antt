@@ -4,3 +4,4 @@ pub mod Beginnings
 pub mod Finished
 pub mod Exchanges
 pub mod Turns
+pub mod Rooms

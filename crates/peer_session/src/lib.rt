@@ -15,6 +15,7 @@ mod packets;
 mod plain;
 mod ready;
 mod said;
+mod rooms;
 mod session;
 mod ticks;
 mod turns;
