@@ -1,5 +1,5 @@
 -- Plain text, and the open session that an engine answer is for.
-use Rattle.std.proofs.Common.{◌≡◌, ◌≢◌, ◌≤◌, ◌+◌, ℕ, Bool, true, false, List, ◌++◌, length, Option, Some, None, Result, Ok, Err, refl, ap, sym, subst, ◌∙◌, arith}
+use Rattle.std.proofs.Common.{◌≡◌, ◌≢◌, ℕ, Bool, true, false, List, ◌++◌, length, Option, Some, None, Result, Ok, Err, refl, ap, sym, subst, ◌∙◌, arith}
 use Rattle.std.specs.Prelude.{◌&&◌, IfOk, OnErr, OnOk, slice_get}
 use Rattle.std.proofs.lemmas.Bool.{false≢true}
 use Rattle.std.proofs.lemmas.Option.{none-some}
@@ -15,7 +15,6 @@ use Rattle.peer_table.specs.EngineAnswers.{answer_in, answer_on, conn_in, engine
 use Rattle.peer_table.specs.KeySessions.{Session}
 use Rattle.peer_table.specs.Outboxes.{HasRoom, Uses}
 use Rattle.peer_table.specs.Peer.{Outcome, Peer, answered}
-use Rattle.peer_table.specs.Places.{changed_at}
 use Rattle.key_sessions.specs.declared.slots.Slots.{Slots}
 use Rattle.key_sessions.specs.Slots.{SlotsStand}
 use Rattle.peer_lines.specs.declared.channels.SessionChannels.{SessionChannels}
@@ -24,8 +23,8 @@ use Rattle.peer_lines.specs.Standing.{StandsFor}
 use Rattle.peer_session.specs.declared.session.PeerSession.{PeerSession}
 use Rattle.peer_session.specs.Ready.{IsReady, TakesKind, TakesPlain, TakesText}
 use Rattle.peer_session.specs.Standing.{PeerStands}
-use Rattle.peer_session.proofs.Keeping.{Follows, PutBack, alike, no_change, text_put}
-use Rattle.peer_session.proofs.Waits.{FirstAt, first_at}
+use Rattle.peer_session.proofs.Keeping.{PutBack, alike, no_change, text_put}
+use Rattle.peer_session.proofs.Waits.{first_at}
 
 -- ---- plain text
 

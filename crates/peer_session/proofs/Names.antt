@@ -1,5 +1,5 @@
 -- The common name of the other end.
-use Rattle.std.proofs.Common.{◌≡◌, ◌≢◌, ℕ, zero, suc, ◌-◌, ◌≤◌, Bool, true, false, List, [], ◌∷◌, ◌++◌, length, Option, Some, None, refl, ap, sym, subst, ◌∙◌, arith}
+use Rattle.std.proofs.Common.{◌≡◌, ◌≢◌, ℕ, zero, suc, ◌≤◌, Bool, true, false, List, [], ◌∷◌, length, Option, Some, None, refl, ap, sym, subst, ◌∙◌, arith}
 use Rattle.std.specs.Prelude.{◌&&◌, is_none, is_some, nat_le, not, slice_get, if◌then◌else◌}
 use Rattle.std.specs.List.{list_all}
 use Rattle.std.specs.Str.{bytes_eq}
@@ -10,7 +10,7 @@ use Rattle.vpn_base.specs.declared.names.Cause.TheVariants as causes
 use Rattle.vpn_base.specs.FileName.{is_file_name, is_name_byte, names_folder}
 use Rattle.tls_crypt.specs.Packets.{Wrapping}
 use Rattle.peer_table.specs.declared.outcomes.Turn.{Turn}
-use Rattle.peer_table.specs.declared.outcomes.Turn.TheVariants.{Going, Ignored, Over}
+use Rattle.peer_table.specs.declared.outcomes.Turn.TheVariants.{Ignored, Over}
 use Rattle.peer_table.specs.EngineAnswers.{judged_at, kept_name, name_at, name_came, name_given, name_in, name_judged, with_named}
 use Rattle.peer_table.specs.KeySessions.{Session, Stage, has_keys, is_keyed, newest}
 use Rattle.peer_table.specs.KeySessions as sessions
@@ -18,7 +18,7 @@ use Rattle.peer_table.specs.Orderly.{IsOrderly, all_before_have_keys}
 use Rattle.peer_table.specs.Peer.{Outcome, Peer, answered}
 use Rattle.peer_table.specs.Places.{changed_at}
 use Rattle.key_sessions.specs.Changes.{newest_named}
-use Rattle.key_sessions.specs.Looks.{newest_as, newest_seen, stage_of}
+use Rattle.key_sessions.specs.Looks.{newest_seen, stage_of}
 use Rattle.key_sessions.specs.Names.{fault_beside, name_fault}
 use Rattle.key_sessions.specs.Sessions.{restaged}
 use Rattle.key_sessions.specs.declared.name.NameFault.{NameFault}
@@ -32,7 +32,7 @@ use Rattle.peer_lines.specs.Standing.{StandsFor}
 use Rattle.peer_session.specs.declared.session.PeerSession.{PeerSession}
 use Rattle.peer_session.specs.Standing.{EachGoesOn, EachGoesOnUnless, EachIsSound, GoesOn, PeerStands}
 use Rattle.peer_session.specs.internal.Turns.{LeavesQuietly, cause_named, is_opening}
-use Rattle.peer_session.proofs.Waits.{NewestAt, newest_at}
+use Rattle.peer_session.proofs.Waits.{newest_at}
 
 -- ---- a name that is not refused is short
 

@@ -1,17 +1,16 @@
 -- What the owner of a client is to do, and whether its session goes on.
-use Rattle.std.proofs.Common.{◌≡◌, ◌≢◌, ℕ, Bool, true, false, List, [], ◌++◌, length, Option, Some, None, Result, Ok, Err, refl, ap, sym, subst, ◌∙◌}
-use Rattle.std.specs.Prelude.{option_map, slice_get, MatchResult, IsOk, IfOk, OnOk, OnErr}
+use Rattle.std.proofs.Common.{◌≡◌, ℕ, List, ◌++◌, Option, Some, None, Result, Ok, Err, refl, ap, sym, ◌∙◌}
+use Rattle.std.specs.Prelude.{option_map, slice_get, OnOk, OnErr}
 use Rattle.std.proofs.lemmas.List.{append-nil}
 use Rattle.std.proofs.lemmas.Option.{none-some}
 use Rattle.vpn_base.specs.declared.address.Addr.{Addr}
 use Rattle.vpn_base.specs.declared.errors.NoMemory.{NoMemory}
-use Rattle.vpn_links.specs.Actions.{Action, Contents, Datagram}
+use Rattle.vpn_links.specs.Actions.{Contents}
 use Rattle.control_link.specs.Calls.{datagrams_to}
-use Rattle.key_method2.specs.declared.message.Km2.{Km2}
 use Rattle.key_method2.specs.Reading.{reading}
 use Rattle.peer_table.specs.declared.outcomes.Turn.{Turn}
 use Rattle.peer_table.specs.declared.outcomes.Turn.TheVariants.{Going, Ignored, Named, Exchange, Over}
-use Rattle.peer_table.specs.EngineAnswers.{bad_at, bad_in, bad_of, next_turn}
+use Rattle.peer_table.specs.EngineAnswers.{bad_at, bad_in, bad_of}
 use Rattle.peer_table.specs.KeySessions.{Session, Stage}
 use Rattle.peer_table.specs.KeySessions as sessions
 use Rattle.peer_table.specs.Outboxes.{GoesOnUnlessOver, Leaves, LeavesUnless, actions_of}

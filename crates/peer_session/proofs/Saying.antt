@@ -1,5 +1,5 @@
 -- The engine has text for the other end: what the link's call comes to in the client's session.
-use Rattle.std.proofs.Common.{◌≡◌, ◌+◌, ℕ, Bool, true, false, List, [], ◌++◌, length, Option, Some, None, Result, Ok, Err, refl, ap, sym, subst, ◌∙◌}
+use Rattle.std.proofs.Common.{◌≡◌, ◌+◌, ℕ, Bool, true, false, List, Option, Some, Result, Ok, Err, refl, ap, sym, subst, ◌∙◌}
 use Rattle.std.specs.Prelude.{slice_get, MatchResult, IsOk, IfOk}
 use Rattle.std.proofs.lemmas.List.{append-nil}
 use Rattle.vpn_base.specs.declared.address.Addr.{Addr}
@@ -32,7 +32,7 @@ use Rattle.peer_lines.specs.Standing.{StandsFor}
 use Rattle.peer_session.specs.declared.session.PeerSession.{PeerSession}
 use Rattle.peer_session.specs.Standing.{EachGoesOn, EachGoesOnUnless, GoesOn, IsPeerOf, PeerStands, count}
 use Rattle.peer_session.specs.internal.Turns.{is_over, turn_told}
-use Rattle.peer_session.proofs.Keeping.{Follows, PutBack, alike, goes_at, goes_changed, goes_of, line_put, no_change, slots_put, sound_at, sound_changed}
+use Rattle.peer_session.proofs.Keeping.{PutBack, alike, goes_at, goes_changed, goes_of, line_put, no_change, slots_put, sound_at, sound_changed}
 use Rattle.peer_session.proofs.Lines.{Keeps, said_keeps}
 
 -- a text is put back with another link, and the envelope has become another

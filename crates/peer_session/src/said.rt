@@ -13,7 +13,6 @@ ghost use Rattle.peer_session.specs.internal.Turns.{turn_told, is_over};
 
 use crate::session::PeerSession;
 use control_link::LinkEnd;
-use peer_lines::links_go_on;
 use peer_table::Turn;
 use tls_crypt::Wrap;
 use vpn_base::{Addr, Cause, Moment, NoMemory, Or, Sid};
@@ -80,7 +79,6 @@ impl<W: Wrap + Drop> PeerSession<W> {
         ensures count { count self.new ≡ count self.old }
         ensures since { since self.new ≡ since self.old }
     {
-        links_go_on();
         let remote = self.remote_sent();
         match self.slots.take_text(number) {
             None => Ok(Turn::Going),

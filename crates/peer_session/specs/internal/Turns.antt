@@ -1,5 +1,5 @@
 -- What the engine's answers come to in a client's session.
-use Rattle.std.specs.Prelude.{◌≡◌, Bool, true, false, List, [], Result, Ok, Err}
+use Rattle.std.specs.Prelude.{◌≡◌, Bool, true, false, [], Result, Ok, Err}
 use Rattle.vpn_base.specs.declared.errors.NoMemory.{NoMemory}
 use Rattle.vpn_base.specs.declared.errors.Or.{Or}
 use Rattle.vpn_base.specs.declared.errors.Or.TheVariants.{Memory, Why}
