@@ -1,10 +1,10 @@
 -- Whose texts are there, from one number on.
-use Rattle.std.proofs.Common.{◌≡◌, ℕ, ◌+◌, ◌≤◌, ◌<◌, Bool, false, Option, Some, None, refl, ap, subst, sym, ◌∙◌, arith, inl, inr}
-use Rattle.std.specs.Prelude.{is_some, slice_get}
+use Rattle.std.proofs.Common.{◌≡◌, ℕ, ◌+◌, ◌<◌, false, Option, Some, None, refl, ap, subst, arith, inl, inr}
+use Rattle.std.specs.Prelude.{is_some}
 use Rattle.std.proofs.lemmas.Bool.{cases_lt, false≢true}
 use Rattle.key_sessions.specs.declared.slot.Slot.{Slot}
 use Rattle.key_sessions.specs.declared.slots.Slots.{Slots}
-use Rattle.key_sessions.specs.Slots.{NoText, all_slots, newest_number, text_at, text_in}
+use Rattle.key_sessions.specs.Slots.{NoText, newest_number, text_at, text_in}
 use Rattle.key_sessions.proofs.Each.{past_end}
 
 is_none : {T : Type 0} (o : Option T) → false ≡ is_some o → o ≡ None
