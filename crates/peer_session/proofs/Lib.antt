@@ -24,3 +24,4 @@ mod Exchanged
 mod Exchanging
 mod ExchangeSteps
 mod Secrets
+mod Wholes

@@ -5,3 +5,4 @@ pub mod Finished
 pub mod Exchanges
 pub mod Turns
 pub mod Rooms
+pub mod Unread

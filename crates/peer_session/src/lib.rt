@@ -2,6 +2,7 @@
 #![tactic(auto)]
 
 mod begin;
+mod client;
 mod closing;
 mod engine;
 mod laws;
@@ -18,6 +19,7 @@ mod said;
 mod rooms;
 mod session;
 mod ticks;
+mod stub;
 mod turns;
 
 pub use laws::retired_sessions_stay_retired;
