@@ -8,3 +8,7 @@ mod Ends
 mod Finished
 mod Lines
 mod Resets
+mod Wraps
+mod Taking
+mod Beginning
+mod Placing

@@ -3,9 +3,11 @@
 
 mod begin;
 mod closing;
+mod control;
 mod looks;
 mod messages;
 mod name;
+mod next;
 mod numbers;
 mod packets;
 mod ready;
