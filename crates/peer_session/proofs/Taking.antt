@@ -180,3 +180,9 @@ over_of over end is none = is ∙ ap is_some none
 pub is_not_over : {W : Type 0} (before : PeerSession W) → GoesOn before → before.is_over ≡ false
 unfolding GoesOn
 is_not_over before goes = goes.not_over
+
+-- the number of sessions stays
+pub taken_count : {W : Type 0} (before : PeerSession W) (env : Envelope W) (slots : Slots SessionChannels) (remote : Option Sid) (over : Bool) → newest_number slots ≡ newest_number before.slots →
+    count (record before { envelope = env; slots = slots; remote = remote; is_over = over }) ≡ count before
+unfolding count
+taken_count before env slots remote over same = ap (λ (n : ℕ). n + 1) same

@@ -1,6 +1,6 @@
 //! Control packets of a client.
 
-ghost use Rattle.std.specs.Prelude.{◌≡◌, ◌≤◌, ◌<◌, ◌+◌, ◌-◌, ◌^◌, ◌==◌, ℕ, Bool, List, length, Option, Some, true, is_some, slice_get, IsOk, IfOk, OnOk, OnErr, MatchResult};
+ghost use Rattle.std.specs.Prelude.{◌≡◌, ◌≤◌, ◌<◌, ◌+◌, ◌-◌, ◌^◌, ◌==◌, ℕ, Bool, List, length, Option, Some, true, false, is_some, slice_get, IsOk, IfOk, OnOk, OnErr, MatchResult};
 ghost use Rattle.std.specs.Option.{option_or};
 ghost use Rattle.vpn_base.specs.declared.address.Addr.{Addr};
 ghost use Rattle.vpn_base.specs.declared.names.Conn.{Conn};

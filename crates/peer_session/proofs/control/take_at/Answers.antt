@@ -1,4 +1,4 @@
-use Rattle.std.proofs.Common.{Option, Result, OnOk, OnErr, IfOk, IsOk, ap, sym, subst, ◌∙◌, refl, arith}
+use Rattle.std.proofs.Common.{◌≡◌, Option, Result, OnOk, OnErr, IfOk, IsOk, ap, sym, subst, ◌∙◌, refl, arith}
 use Rattle.std.specs.Prelude.{is_some}
 use Rattle.vpn_base.specs.declared.errors.NoMemory.{NoMemory}
 use Rattle.opcode_codec.specs.ControlText.{control_form}

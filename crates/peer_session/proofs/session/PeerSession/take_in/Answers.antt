@@ -4,13 +4,13 @@ use Rattle.peer_table.specs.Outboxes.{incoming}
 use Rattle.peer_lines.specs.Calls.{packet_taken}
 use Rattle.peer_session.specs.Ready.{IsReady}
 use Rattle.peer_session.specs.Standing.{GoesOn, PeerStands}
-use Rattle.peer_session.proofs.Keeping.{goes_at, goes_of, same_count, whole_of}
-use Rattle.peer_session.proofs.Taking.{goes_on_after, goes_on_turn, is_not_over, kept_stands, over_of, taken_answer, taken_left}
+use Rattle.peer_session.proofs.Keeping.{goes_at, goes_of, whole_of}
+use Rattle.peer_session.proofs.Taking.{goes_on_after, goes_on_turn, is_not_over, kept_stands, over_of, taken_answer, taken_count, taken_left}
 use Rattle.peer_session.proofs.Wraps.{still_fresh}
 use Rattle.peer_session.proofs.session.PeerSession.take_in.Goals as goal
 
-pub take_at-requires-clause-whole : goal.take_at-requires-clause-whole
-take_at-requires-clause-whole g c = whole_of c.args.self.now c.requires.goes_on
+pub take_at-taken-requires-clause-whole : goal.take_at-taken-requires-clause-whole
+take_at-taken-requires-clause-whole g c = whole_of c.args.self.now c.requires.goes_on
 
 pub returns-in-Ok-clause-left : goal.returns-in-Ok-clause-left
 unfolding PeerStands
@@ -21,11 +21,11 @@ returns-in-Ok-clause-left g c = λ p s next_conn established stands fresh at is_
     let left = c.in-Ok.ensures.taken p.sessions s p.envelope stands.slots_stand at is_open spent stands.envelope_stands in
     let end = c.in-Ok.ensures.end p.sessions s p.envelope stands.slots_stand at is_open spent stands.envelope_stands in
     let o = packet_taken s p.envelope i.form (sender i) c.args.now.0 in
-    taken_left g.W.Wrap.wrapped c.args.self.now c.take_at-taken.new.env c.accept_wrap.new.env c.take_at-taken.new.slots c.fixed.result c.is_some.result c.in-Ok.end
+    taken_left g.W.Wrap.wrapped c.args.self.now c.take_at-taken.new.env c.accept_wrap.new.env c.take_at-taken.new.slots c.fixed-self.result c.is_some-self.result c.in-Ok.end
     c.args.out.now c.take_at-taken.new.out c.args.to p i c.args.number s stands not_over at
-    (c.links_go_on.ensures.packet s p.envelope i.form (sender i) c.args.now.0) left end c.is_some.ensures c.take_at-taken.ensures.whole
+    (c.links_go_on.ensures.packet s p.envelope i.form (sender i) c.args.now.0) left end c.is_some-self.ensures c.take_at-taken.ensures.whole
     (c.accept_wrap.ensures o.envelope left.envelope (still_fresh s p.envelope i.form (sender i) c.args.now.0 c.args.opened.now c.args.now fresh))
-    c.fixed.ensures
+    c.fixed-self.ensures
 
 pub returns-in-Ok-clause-answer : goal.returns-in-Ok-clause-answer
 unfolding PeerStands
@@ -38,11 +38,11 @@ returns-in-Ok-clause-answer g c = λ p s next_conn established stands at is_open
 
 pub returns-in-Ok-clause-goes_on : goal.returns-in-Ok-clause-goes_on
 returns-in-Ok-clause-goes_on g c = goes_on_turn c.in-Ok.end c.turn_of.result _ c.turn_of.ensures
-    (λ none. goes_on_after c.args.self.now c.accept_wrap.new.env c.take_at-taken.new.slots c.fixed.result c.is_some.result c.requires.goes_on
-    (over_of c.is_some.result c.in-Ok.end c.is_some.ensures none) c.take_at-taken.ensures.whole)
+    (λ none. goes_on_after c.args.self.now c.accept_wrap.new.env c.take_at-taken.new.slots c.fixed-self.result c.is_some-self.result c.requires.goes_on
+    (over_of c.is_some-self.result c.in-Ok.end c.is_some-self.ensures none) c.take_at-taken.ensures.whole)
 
 pub returns-in-Ok-clause-count : goal.returns-in-Ok-clause-count
-returns-in-Ok-clause-count g c = same_count c.args.self.now c.take_at-taken.new.slots c.take_at-taken.ensures.number
+returns-in-Ok-clause-count g c = taken_count c.args.self.now c.accept_wrap.new.env c.take_at-taken.new.slots c.fixed-self.result c.is_some-self.result c.take_at-taken.ensures.number
 
 pub returns-in-Ok-clause-uses : goal.returns-in-Ok-clause-uses
 unfolding IsReady
@@ -63,7 +63,7 @@ returns-in-Err-clause-goes_on g c = goes_on_after c.args.self.now c.take_at-take
     (is_not_over c.args.self.now c.requires.goes_on) c.take_at-taken.ensures.whole
 
 pub returns-in-Err-clause-count : goal.returns-in-Err-clause-count
-returns-in-Err-clause-count g c = same_count c.args.self.now c.take_at-taken.new.slots c.take_at-taken.ensures.number
+returns-in-Err-clause-count g c = taken_count c.args.self.now c.take_at-taken.new.env c.take_at-taken.new.slots c.args.self.now.remote c.args.self.now.is_over c.take_at-taken.ensures.number
 
 pub returns-in-Err-clause-fits : goal.returns-in-Err-clause-fits
 unfolding IsReady
