@@ -22,9 +22,10 @@ use Rattle.key_sessions.specs.declared.slots.Slots.{Slots}
 use Rattle.key_sessions.specs.Looks.{newest_seen}
 use Rattle.key_sessions.specs.Sessions.{BeginsAt}
 use Rattle.key_sessions.specs.Slots.{IsWhole, SlotsStand}
+use Rattle.peer_lines.specs.declared.blank.SessionBlank.{SessionBlank}
 use Rattle.peer_lines.specs.declared.channels.SessionChannels.{SessionChannels}
 use Rattle.peer_lines.specs.Calls.{GoesOn as LinkGoesOn, Leaves as LineLeaves, packet_taken}
-use Rattle.peer_lines.specs.Standing.{StandsFor}
+use Rattle.peer_lines.specs.Standing.{BlankFor, StandsFor}
 use Rattle.peer_table.specs.declared.outcomes.Turn.{Turn}
 use Rattle.peer_table.specs.ControlPackets.{Incoming, begun_by, next_session, sender, wrap_accepted}
 use Rattle.peer_table.specs.KeySessions.{Session, newest, session_begun}
@@ -32,7 +33,7 @@ use Rattle.peer_table.specs.Outboxes.{Leaves, actions_of}
 use Rattle.peer_table.specs.Peer.{Peer, turn_of}
 use Rattle.peer_table.specs.Places.{changed_at}
 use Rattle.peer_session.specs.declared.session.PeerSession.{PeerSession}
-use Rattle.peer_session.specs.Standing.{IsPeerOf, PeerStands}
+use Rattle.peer_session.specs.Standing.{BlankIsFor, GoesOn, IsPeerOf, PeerStands, count}
 use Rattle.peer_session.proofs.Keeping.{goes_if, goes_more, goes_of, sound_more}
 use Rattle.peer_session.proofs.Taking.{all_stand, not_told}
 use Rattle.peer_session.proofs.Waits.{newest_at}
@@ -108,3 +109,41 @@ pub begun_answer : (p : Peer) (i : Incoming) (end : Option LinkEnd) (turn : Turn
     turn ≡ turn_of end → Ok turn ≡ (begun_by p i true).answer
 unfolding packet_taken
 begun_answer p i end turn told is = ap Ok (is ∙ ap turn_of told)
+
+-- ---- its memory
+
+pub blank_stands : {W : Type 0} (wrapped : W → Wrapping) (before : PeerSession W) (blank : Option SessionBlank) (p : Peer) → PeerStands wrapped before p → PeerStands wrapped (record before { blank = blank }) p
+unfolding PeerStands
+blank_stands wrapped before blank p is = record {
+  role_is = is.role_is;
+  timers_are = is.timers_are;
+  own_is = is.own_is;
+  envelope_stands = is.envelope_stands;
+  remote_is = is.remote_is;
+  name_is = is.name_is;
+  asks_is = is.asks_is;
+  slots_stand = is.slots_stand;
+  whole = is.whole;
+  sound = is.sound;
+  each_goes_on = is.each_goes_on;
+}
+
+pub goes_with_blank : {W : Type 0} (before : PeerSession W) (blank : Option SessionBlank) → GoesOn before → BlankIsFor blank before.timers → GoesOn (record before { blank = blank })
+unfolding GoesOn
+goes_with_blank before blank goes is = record {
+  not_over = goes.not_over;
+  whole = goes.whole;
+  some_ids = goes.some_ids;
+  some_timeout = goes.some_timeout;
+  short_timeout = goes.short_timeout;
+  blank_for = is;
+}
+
+pub blank_count : {W : Type 0} (before : PeerSession W) (blank : Option SessionBlank) → count (record before { blank = blank }) ≡ count before
+unfolding count
+blank_count before blank = refl
+
+-- the memory that is there is for its timers
+pub blank_of : {W : Type 0} (before : PeerSession W) (blank : SessionBlank) → GoesOn before → before.blank ≡ Some blank → BlankFor blank before.timers
+unfolding GoesOn
+blank_of before blank goes is = subst (λ (o : Option SessionBlank). BlankIsFor o before.timers) is goes.blank_for
