@@ -10,12 +10,12 @@ use Rattle.vpn_base.specs.declared.errors.Or.{Or}
 use Rattle.vpn_base.specs.declared.errors.Or.TheVariants.{Memory, Why}
 use Rattle.vpn_base.specs.declared.names.Role.TheVariants.{Server}
 use Rattle.vpn_base.specs.declared.names.Sid.{Sid}
-use Rattle.vpn_links.specs.Actions.{Contents}
+use Rattle.vpn_links.specs.Actions.{Action, Contents, Datagram, Holds}
 use Rattle.reliable_send.specs.Sides.{IsNotMemory}
 use Rattle.tls_crypt.specs.Packets.{Wrapping}
 use Rattle.control_link.specs.declared.envelope.Envelope.{Envelope}
 use Rattle.control_link.specs.declared.link.LinkEnd.{LinkEnd}
-use Rattle.control_link.specs.Calls.{Told}
+use Rattle.control_link.specs.Calls.{Told, datagrams_to}
 use Rattle.control_link.specs.Envelope.{EnvelopeHistory, EnvelopeStands}
 use Rattle.key_sessions.specs.declared.slots.Slots.{Slots}
 use Rattle.key_sessions.specs.Slots.{IsWhole, SlotsStand, newest_number}
@@ -25,8 +25,8 @@ use Rattle.peer_lines.specs.Standing.{StandsFor}
 use Rattle.peer_table.specs.declared.outcomes.Turn.{Turn}
 use Rattle.peer_table.specs.ControlPackets.{Incoming, sender, taken_by, wrap_accepted}
 use Rattle.peer_table.specs.KeySessions.{Session}
-use Rattle.peer_table.specs.Outboxes.{GoesOnUnlessOver, Leaves}
-use Rattle.peer_table.specs.Peer.{Peer, turn_of}
+use Rattle.peer_table.specs.Outboxes.{GoesOnUnlessOver, Leaves, actions_of}
+use Rattle.peer_table.specs.Peer.{Outcome, Peer, answered, turn_of}
 use Rattle.peer_table.specs.Places.{changed_at}
 use Rattle.peer_session.specs.declared.session.PeerSession.{PeerSession}
 use Rattle.peer_session.specs.Standing.{EachGoesOn, EachGoesOnUnless, EachIsSound, GoesOn, IsGoingOn, IsPeerOf, PeerStands, count}
@@ -186,3 +186,18 @@ pub taken_count : {W : Type 0} (before : PeerSession W) (env : Envelope W) (slot
     count (record before { envelope = env; slots = slots; remote = remote; is_over = over }) ≡ count before
 unfolding count
 taken_count before env slots remote over same = ap (λ (n : ℕ). n + 1) same
+
+-- room alone changes nothing in an outbox
+pub left_reserved : {S A : Type 0} (means : S → Peer → Type 0) (s : S) (before reserved after : Contents) (to : Addr) (o : Outcome A) → Holds reserved before.effects before.staged →
+    Leaves means s reserved after to o → Leaves means s before after to o
+left_reserved means s before reserved after to o same left = record {
+  peer = left.peer;
+  outbox = (
+    left.outbox.0 ∙ ap (λ (es : List Action). es ++ actions_of o.peer.role o.doings) same.0,
+    left.outbox.1 ∙ ap (λ (ds : List Datagram). ds ++ datagrams_to to o.datagrams) same.1,
+  );
+}
+
+-- nothing was done
+pub nothing_left : {S A : Type 0} (means : S → Peer → Type 0) (s : S) (c : Contents) (to : Addr) (p : Peer) (answer : A) → means s p → Leaves means s c c to (answered p answer)
+nothing_left means s c to p answer is = record { peer = is; outbox = (sym (append-nil c.effects), sym (append-nil c.staged)) }

@@ -157,21 +157,60 @@ impl<W: Wrap + Drop> PeerSession<W> {
         ensures count { count self.new ≤ count self.old + 1 }
         ensures since { since self.new ≡ since self.old }
     {
-        let room = match first_room(view.payload.len()) {
+        match self.take_memory(view.payload.len(), out) {
+            Ok(blank) => Ok(Ok(self.begin_with(blank, opened, view, to, next_conn, now, out))),
+            Err(NoMemory) => Err(NoMemory),
+        }
+    }
+
+    // Takes all memory for the beginning of a next session by a packet with a payload of so many bytes: a place for it, what
+    // belongs to it, which is given, and the outbox's room.
+    fn take_memory(&mut self, payload: usize, out: &mut Outbox) -> Result<SessionBlank, NoMemory>
+        requires goes_on { GoesOn self.old }
+        ensures same { (p : Peer) → PeerStands W.wrapped self.old p → PeerStands W.wrapped self.new p }
+        ensures goes_on { GoesOn self.new }
+        ensures place { OnOk result (1 ≤ room self.new.slots) }
+        ensures blank_for { IfOk result (λ blank. BlankFor blank self.new.timers) }
+        ensures blank_fits { IfOk result (λ blank. payload ≤ blank_room blank) }
+        ensures bytes { OnOk result (7200 + 12 * payload < 2 ^ 64) }
+        ensures room { OnOk result (HasRoom out.new 19 (7200 + 12 * payload)) }
+        ensures outbox { Holds out.new out.old.effects out.old.staged }
+        ensures fits { (from : Addr) (bytes : List ℕ) (effects room : ℕ) → IsReady self.old (Datagram from bytes) effects room →
+            payload ≤ length bytes → HasRoom out.old effects room → IsOk result }
+        ensures grows { Uses out.old out.new 0 0 }
+        ensures stage { newest_stage self.new.slots ≡ newest_stage self.old.slots }
+        ensures count { count self.new ≡ count self.old }
+        ensures since { since self.new ≡ since self.old }
+    {
+        let room = match first_room(payload) {
             None => return Err(NoMemory),
             Some(room) => room,
         };
-        match self.make_next_for(view.payload.len()) {
+        match self.make_next_for(payload) {
             Ok(()) => {}
             Err(NoMemory) => return Err(NoMemory),
         }
         match out.reserve(MOST, room) {
-            Ok(()) => {}
-            Err(NoMemory) => return Err(NoMemory),
+            Ok(()) => self.take_blank(),
+            Err(NoMemory) => Err(NoMemory),
         }
+    }
+
+    // The memory of what belongs to a next session, where it is there.
+    fn take_blank(&mut self) -> Result<SessionBlank, NoMemory>
+        requires goes_on { GoesOn self.old }
+        ensures same { (p : Peer) → PeerStands W.wrapped self.old p → PeerStands W.wrapped self.new p }
+        ensures goes_on { GoesOn self.new }
+        ensures blank_for { IfOk result (λ blank. BlankFor blank self.new.timers) }
+        ensures blank_fits { IfOk result (λ blank. (payload : ℕ) → BlankTakes payload self.old.blank → payload ≤ blank_room blank) }
+        ensures fits { (payload : ℕ) → BlankTakes payload self.old.blank → IsOk result }
+        ensures slots { self.new.slots ≡ self.old.slots }
+        ensures count { count self.new ≡ count self.old }
+        ensures since { since self.new ≡ since self.old }
+    {
         match self.blank.take() {
             None => Err(NoMemory),
-            Some(blank) => Ok(Ok(self.begin_with(blank, opened, view, to, next_conn, now, out))),
+            Some(blank) => Ok(blank),
         }
     }
 
