@@ -157,6 +157,10 @@ newest_open ss begun last without =
     let there = there_at ss (newest ss) (omega (arith, begun)) in
     record { session = there.0; here = there.1; is_open = last_is_open ss (newest ss) there.0 (has_keys there.0) refl there.1 (omega (arith, begun)) last without }
 
+usable_is_open : (p : Peer) (at kid n : ℕ) → LastIsOpen p.sessions → UsableAreOpen p at → with_kid kid (usable p.timers at p.sessions) ≡ Some n → OpenKeyedAt p.sessions n
+unfolding usable_with
+usable_is_open p at kid n last usables is = usable_open p at kid n last usables is
+
 -- the live session with a key id is open
 pub live_open : (p : Peer) (at kid n : ℕ) → IsOrderly p.sessions → LastIsOpen p.sessions → OpenWithoutKeys p.sessions → UsableAreOpen p at → live_with p.timers at p.sessions kid ≡ Some n →
     OpenAt (slice_get p.sessions) n
@@ -165,7 +169,3 @@ live_open p at kid n orderly last without usables is =
     found_by kid n (newest p.sessions) (kid_of (newest p.sessions) == kid) (with_kid kid (usable p.timers at p.sessions)) (OpenAt (slice_get p.sessions) n) is
     (λ same. subst (OpenAt (slice_get p.sessions)) same (newest_open p.sessions orderly.begun last without))
     (λ rest. let there = usable_is_open p at kid n last usables rest in record { session = there.keyed.session; here = there.keyed.here; is_open = there.is_open })
-  where
-    usable_is_open : (p : Peer) (at kid n : ℕ) → LastIsOpen p.sessions → UsableAreOpen p at → with_kid kid (usable p.timers at p.sessions) ≡ Some n → OpenKeyedAt p.sessions n
-    unfolding usable_with
-    usable_is_open p at kid n last usables is = usable_open p at kid n last usables is

@@ -217,7 +217,6 @@ impl<W: Wrap + Drop> PeerSession<W> {
         ensures since { since self.new ≡ since self.old }
     {
         sessions_are_open_without_keys(&self.slots);
-        let _ = self.slots.newest_usable();
         match self.slots.live(opened.first % 8, now, self.timers.tran) {
             None => self.begin_or_refuse(opened, view, to, next_conn, established, now, out),
             Some(number) => self.take_in(number, opened, view, to, now, out),
