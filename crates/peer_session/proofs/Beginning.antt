@@ -86,7 +86,7 @@ begun_left wrapped before middle env slots remote over end text was opened is_no
     let o = packet_taken s p.envelope i.form (sender i) i.moment.0 in
     record {
       peer = subst (λ (ss : List Session). PeerStands wrapped (record before { envelope = env; slots = slots; remote = remote; is_over = over })
-              (record p { envelope = wrap_accepted i o.envelope; remote = option_or p.remote (Some (sender i)); sessions = ss }))
+          (record p { envelope = wrap_accepted i o.envelope; remote = option_or p.remote (Some (sender i)); sessions = ss }))
           (sym (changed_last p.sessions s (λ t. record t { link = o.session.link })))
           (all_stand wrapped before env slots remote (option_or p.remote (Some (sender i))) over p (wrap_accepted i o.envelope) (p.sessions ++ o.session ∷ [])
           is envelope (packet_own s p.envelope i.form (sender i) i.moment.0)

@@ -45,7 +45,6 @@ pub placed_nowhere : (p : Peer) (i : Incoming) → None ≡ live_with p.timers i
     begun_by p i (begins_next p i) ≡ placed p i (live_with p.timers i.moment.0 p.sessions (kid_in i))
 placed_nowhere p i live = ap (placed p i) live
 
-
 -- what is left where it goes to none: its wrap is accepted
 pub refused_left : {W : Type 0} (wrapped : W → Wrapping) (before : PeerSession W) (env : Envelope W) (c : Contents) (to : Addr) (p : Peer) (i : Incoming) → IsPeerOf wrapped before p →
     EnvelopeStands wrapped env (wrap_accepted i p.envelope) → Leaves (PeerStands wrapped) (record before { envelope = env }) c c to (begun_by p i false)

@@ -138,7 +138,7 @@ taken_left wrapped before middle env slots remote over end was is_now to p i n s
     let o = packet_taken s p.envelope i.form (sender i) i.moment.0 in
     record {
       peer = subst (λ (ss : List Session). PeerStands wrapped (record before { envelope = env; slots = slots; remote = remote; is_over = over })
-              (record p { envelope = wrap_accepted i o.envelope; remote = option_or p.remote (Some (sender i)); sessions = ss }))
+          (record p { envelope = wrap_accepted i o.envelope; remote = option_or p.remote (Some (sender i)); sessions = ss }))
           (alike p.sessions n s (λ _. o.session) (λ t. record t { link = o.session.link }) at refl)
           (all_stand wrapped before env slots remote (option_or p.remote (Some (sender i))) over p (wrap_accepted i o.envelope) (changed_at n (λ _. o.session) p.sessions)
           is envelope (packet_own s p.envelope i.form (sender i) i.moment.0)

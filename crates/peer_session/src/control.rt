@@ -25,7 +25,7 @@ ghost use Rattle.peer_session.specs.internal.Taking.{is_fresh, IsFreshIn, LineKe
 use crate::session::PeerSession;
 use control_link::{Envelope, LinkEnd};
 use key_sessions::{Slots, kid_of, sessions_are_open_without_keys};
-use opcode_codec::ControlView;
+use opcode_codec::{ControlView, Opcode};
 use peer_lines::{SessionChannels, links_go_on};
 use peer_table::{Refused, Turn};
 use tls_crypt::{Opened, Wrap};
@@ -45,12 +45,8 @@ fn is_fresh<W: Wrap + Drop>(env: &Envelope<W>, opened: &Opened<'_>, now: Moment)
     }
 }
 
-// Accepts the wrap of a packet, which is fresh. What was sent since it was judged has not changed that.
-pub(crate) fn accept_wrap<W: Wrap + Drop>(
-    env: &mut Envelope<W>,
-    opened: &Opened<'_>,
-    now: Moment,
-)
+// Accepts the wrap of a packet that was judged fresh. Nothing that was sent meanwhile has changed that, so it is fresh still.
+pub(crate) fn accept_wrap<W: Wrap + Drop>(env: &mut Envelope<W>, opened: &Opened<'_>, now: Moment)
     ensures { (h : EnvelopeHistory) → EnvelopeStands W.wrapped env.old h → IsFreshIn h opened.now now →
         EnvelopeStands W.wrapped env.new (with_accepted h opened.now.time opened.now.id now) }
 {
@@ -137,7 +133,7 @@ fn take_at<W: Wrap + Drop>(
 fn is_soft_reset(first: u8) -> bool
     ensures { result ≡ is_soft_reset (opcode_of first) }
 {
-    first / 8 == 3
+    first / 8 == Opcode::SoftReset as u8
 }
 
 // Whether the packet id is 0.
