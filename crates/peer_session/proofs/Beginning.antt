@@ -39,20 +39,6 @@ use Rattle.peer_session.proofs.Taking.{all_stand, not_told}
 use Rattle.peer_session.proofs.Waits.{newest_at}
 use Rattle.peer_session.proofs.Wraps.{packet_own}
 
--- ---- the next number
-
-below_of : (ss : List Session) (n : ℕ) (s : Session) → slice_get ss n ≡ Some s → n < length ss
-below_of [] n s at = absurd (none-some s at)
-below_of (x ∷ ss) zero s at = omega arith
-below_of (x ∷ ss) (suc n) s at = let below = below_of ss n s at in omega (arith, below)
-
-pub next_number : (ss : List Session) (seen : Newest) → newest_seen ss ≡ Some seen → seen.number + 1 ≡ length ss
-next_number ss seen is =
-    let at = newest_at ss seen is in
-    let below = below_of ss (newest ss) at.session at.here in
-    let same : newest ss ≡ seen.number = ap (λ (r : Newest). r.number) at.seen_so in
-    omega (arith, below, same)
-
 -- ---- the next session
 
 -- the one that the code begins

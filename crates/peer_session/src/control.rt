@@ -22,6 +22,7 @@ ghost use Rattle.peer_session.specs.Ready.{EachText, IsReady, TakesPacket};
 ghost use Rattle.peer_session.specs.Standing.{GoesOn, PeerStands, UsableAreOpen, count, since};
 ghost use Rattle.peer_session.specs.internal.Taking.{is_fresh, IsFreshIn, LineKept, LineLeft, end_told};
 
+use crate::said::cause_of;
 use crate::session::PeerSession;
 use control_link::{Envelope, LinkEnd};
 use key_sessions::{Slots, kid_of, sessions_are_open_without_keys};
@@ -29,7 +30,7 @@ use opcode_codec::{ControlView, Opcode};
 use peer_lines::{SessionChannels, links_go_on};
 use peer_table::{Refused, Turn};
 use tls_crypt::{Opened, Wrap};
-use vpn_base::{Addr, Cause, Conn, Freshness, Moment, NoMemory, Or, Sid};
+use vpn_base::{Addr, Conn, Freshness, Moment, NoMemory, Or, Sid};
 use vpn_links::Outbox;
 
 // Whether a wrap is fresh.
@@ -75,8 +76,7 @@ pub(crate) fn turn_of(end: Option<LinkEnd>) -> Turn
 {
     match end {
         None => Turn::Going,
-        Some(LinkEnd::TextFull) => Turn::Over(Cause::TextFull),
-        Some(LinkEnd::WrapSpent) => Turn::Over(Cause::WrapSpent),
+        Some(end) => Turn::Over(cause_of(end)),
     }
 }
 

@@ -4,14 +4,23 @@
 mod begin;
 mod closing;
 mod control;
+mod engine;
+mod exchange;
+mod laws;
 mod looks;
 mod messages;
 mod name;
+mod named;
 mod next;
 mod numbers;
 mod packets;
+mod plain;
 mod ready;
+mod said;
+mod rooms;
 mod session;
 mod ticks;
+mod turns;
 
+pub use laws::retired_sessions_stay_retired;
 pub use session::PeerSession;

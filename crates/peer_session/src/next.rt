@@ -23,6 +23,7 @@ ghost use Rattle.peer_session.specs.Standing.{GoesOn, PeerStands, count, since};
 ghost use Rattle.peer_session.specs.internal.Taking.{IsFreshIn, end_only};
 
 use crate::control::{accept_wrap, fixed, turn_of};
+use crate::rooms::least_bytes;
 use crate::session::PeerSession;
 use control_link::{Envelope, LinkEnd};
 use key_sessions::{KeySession, Slots, kid_of};
@@ -37,25 +38,6 @@ use vpn_links::{Effect, Outbox};
 // As many effects and datagrams come of a packet that begins a session at most: a connection is opened, and what a packet
 // comes to.
 const MOST: usize = 19;
-
-// No more payloads than so many are in order once a packet was taken.
-const MOST_PUT: usize = 12;
-
-// As many bytes have its datagrams at most.
-const SENT_BYTES: usize = 7_200;
-
-// For how many bytes an outbox has to have room where the first packet of a session has a payload of so many bytes. None
-// comes where that is no number of bytes.
-fn first_room(payload: usize) -> Option<usize>
-    ensures room { IfSome result (λ n. n ≡ 7200 + 12 * payload) }
-    ensures none { IfNone result (2 ^ 64 ≤ 7200 + 12 * payload) }
-{
-    let texts = match MOST_PUT.checked_mul(payload) {
-        None => return None,
-        Some(texts) => texts,
-    };
-    texts.checked_add(SENT_BYTES)
-}
 
 // The end that a link's answer tells, where there was no want of memory.
 fn end_only(told: Result<(), Or<LinkEnd>>) -> Option<LinkEnd>
@@ -182,7 +164,7 @@ impl<W: Wrap + Drop> PeerSession<W> {
         ensures count { count self.new ≡ count self.old }
         ensures since { since self.new ≡ since self.old }
     {
-        let room = match first_room(payload) {
+        let room = match least_bytes(payload) {
             None => return Err(NoMemory),
             Some(room) => room,
         };
@@ -211,45 +193,6 @@ impl<W: Wrap + Drop> PeerSession<W> {
         match self.blank.take() {
             None => Err(NoMemory),
             Some(blank) => Ok(blank),
-        }
-    }
-
-    // Takes the memory of a next session, with room for a payload of so many bytes.
-    fn make_next_for(&mut self, payload: usize) -> Result<(), NoMemory>
-        requires goes_on { GoesOn self.old }
-        ensures same { (p : Peer) → PeerStands W.wrapped self.old p → PeerStands W.wrapped self.new p }
-        ensures goes_on { GoesOn self.new }
-        ensures place { OnOk result (1 ≤ room self.new.slots) }
-        ensures takes { OnOk result (BlankTakes payload self.new.blank) }
-        ensures fits { (bytes : ℕ) → MayBegin self.old → BlankTakes bytes self.old.blank → payload ≤ bytes → IsOk result }
-        ensures stage { newest_stage self.new.slots ≡ newest_stage self.old.slots }
-        ensures count { count self.new ≡ count self.old }
-        ensures since { since self.new ≡ since self.old }
-    {
-        match self.make_next() {
-            Ok(()) => self.reserve_first(payload),
-            Err(NoMemory) => Err(NoMemory),
-        }
-    }
-
-    // Takes the room for the payload of the first packet of the next session, where its memory is there.
-    fn reserve_first(&mut self, payload: usize) -> Result<(), NoMemory>
-        requires goes_on { GoesOn self.old }
-        ensures same { (p : Peer) → PeerStands W.wrapped self.old p → PeerStands W.wrapped self.new p }
-        ensures goes_on { GoesOn self.new }
-        ensures takes { OnOk result (BlankTakes payload self.new.blank) }
-        ensures fits { (bytes : ℕ) → BlankTakes bytes self.old.blank → payload ≤ bytes → IsOk result }
-        ensures slots { self.new.slots ≡ self.old.slots }
-        ensures count { count self.new ≡ count self.old }
-        ensures since { since self.new ≡ since self.old }
-    {
-        match self.blank.take() {
-            None => Err(NoMemory),
-            Some(mut blank) => {
-                let reserved = blank.reserve_payload(payload);
-                self.blank = Some(blank);
-                reserved
-            }
         }
     }
 

@@ -6,8 +6,9 @@ use Rattle.peer_table.specs.KeySessions.{Session}
 use Rattle.peer_table.specs.Outboxes.{incoming}
 use Rattle.peer_lines.specs.Calls.{Leaves as LineLeaves, packet_taken}
 use Rattle.peer_session.specs.Standing.{PeerStands, count}
-use Rattle.peer_session.proofs.Beginning.{begins, begun_answer, begun_left, next_is, next_number}
+use Rattle.peer_session.proofs.Beginning.{begins, begun_answer, begun_left, next_is}
 use Rattle.peer_session.proofs.Keeping.{whole_of}
+use Rattle.peer_session.proofs.Seen.{next_number}
 use Rattle.peer_session.proofs.Taking.{goes_on_after, goes_on_turn, is_not_over, over_of}
 use Rattle.peer_session.proofs.Wraps.{still_fresh}
 use Rattle.peer_session.proofs.session.PeerSession.begin_with.Goals as goal

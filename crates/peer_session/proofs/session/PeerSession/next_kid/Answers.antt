@@ -1,7 +1,7 @@
 use Rattle.std.proofs.Common.{ap, sym, ◌∙◌, arith}
 use Rattle.peer_table.specs.KeySessions.{kid_of}
 use Rattle.peer_session.specs.Standing.{PeerStands, count}
-use Rattle.peer_session.proofs.Beginning.{next_number}
+use Rattle.peer_session.proofs.Seen.{next_number}
 use Rattle.peer_session.proofs.session.PeerSession.next_kid.Goals as goal
 
 pub overflow_add-newest : goal.overflow_add-newest
