@@ -1,6 +1,7 @@
 -- Whether the newest session is finished, and late.
-use Rattle.std.proofs.Common.{◌≡◌, ℕ, zero, suc, Bool, List, Option, Some, refl, ap, sym, ◌∙◌}
+use Rattle.std.proofs.Common.{◌≡◌, ℕ, zero, suc, Bool, true, false, List, Option, Some, refl, ap, sym, ◌∙◌}
 use Rattle.std.specs.Prelude.{not, ◌&&◌}
+use Rattle.std.proofs.lemmas.Bool.{false≢true}
 use Rattle.vpn_base.specs.declared.names.Conn.{Conn}
 use Rattle.peer_table.specs.ControlPackets.{is_finished_as, newest_is_finished}
 use Rattle.peer_table.specs.KeySessions.{Session, Stage, began_before, has_keys, has_passed, is_keyed, newest, newest_session}
@@ -9,6 +10,8 @@ use Rattle.peer_table.specs.Peer.{Peer}
 use Rattle.peer_table.specs.Time.{is_late, ticking}
 use Rattle.key_sessions.specs.Looks.{newest_seen, stage_of}
 use Rattle.key_sessions.specs.declared.slot.Newest.{Newest}
+use Rattle.key_sessions.specs.declared.slot.Stage.{Stage as SeenStage}
+use Rattle.key_sessions.specs.declared.slot.Stage.TheVariants as stages
 use Rattle.peer_session.specs.internal.Finished.{finished_at, is_finished_seen, is_keyed_stage}
 use Rattle.peer_session.proofs.Waits.{NewestAt, newest_at}
 
@@ -40,3 +43,17 @@ late_is p seen hand now next_conn established idle is same =
     ∙ ap (λ (h : ℕ). not (newest_is_finished established p.sessions) && has_passed h seen.began.0 now) same
     ∙ ap (λ (r : Newest). not (newest_is_finished established p.sessions) && has_passed p.timers.hand r.began.0 now) (sym at.seen_so)
     ∙ ap (λ (o : Option Session). not (newest_is_finished established p.sessions) && began_before p.timers.hand now o) (sym at.here)
+
+-- one that is finished has keys
+keyed_seen : (stage : SeenStage) → is_keyed_stage stage ≡ true → stage ≡ stages.Keyed
+keyed_seen stages.Opening is = absurd (false≢true is)
+keyed_seen stages.Named is = absurd (false≢true is)
+keyed_seen stages.Keyed is = refl
+
+keyed_at : (established keyed : Bool) (n : ℕ) → finished_at established keyed n ≡ true → keyed ≡ true
+keyed_at established true n is = refl
+keyed_at established false zero is = absurd (false≢true is)
+keyed_at established false (suc n) is = absurd (false≢true is)
+
+pub finished_keyed : (established : Bool) (seen : Newest) → is_finished_seen established seen ≡ true → seen.stage ≡ stages.Keyed
+finished_keyed established seen is = keyed_seen seen.stage (keyed_at established (is_keyed_stage seen.stage) seen.number is)

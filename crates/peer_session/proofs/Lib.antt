@@ -25,3 +25,7 @@ mod Exchanging
 mod ExchangeSteps
 mod Secrets
 mod Wholes
+mod Wraps
+mod Taking
+mod Beginning
+mod Placing

@@ -6,3 +6,4 @@ pub mod Exchanges
 pub mod Turns
 pub mod Rooms
 pub mod Unread
+pub mod Taking

@@ -4,13 +4,15 @@
 mod begin;
 mod client;
 mod closing;
+mod control;
 mod engine;
-mod laws;
 mod exchange;
+mod laws;
 mod looks;
 mod messages;
 mod name;
 mod named;
+mod next;
 mod numbers;
 mod packets;
 mod plain;

@@ -2,7 +2,7 @@
 
 ghost use Rattle.std.specs.Prelude.{◌≡◌, ◌≤◌, ◌<◌, ◌-◌, ◌^◌, ℕ, true, is_some, IfOk, IsOk, OnOk};
 ghost use Rattle.vpn_base.specs.declared.names.Timers.{Timers};
-ghost use Rattle.key_sessions.specs.Slots.{text_at};
+ghost use Rattle.key_sessions.specs.Slots.{newest_stage, text_at};
 ghost use Rattle.peer_table.specs.Peer.{Peer};
 ghost use Rattle.peer_session.specs.Ready.{BlankTakes, IsReady, MayBegin, TakesControl, TakesPlain, TakesText, TakesTick};
 ghost use Rattle.peer_session.specs.Standing.{BlankIsFor, GoesOn, PeerStands, count, since};
@@ -29,6 +29,7 @@ fn reserve_in_blank(blank: &mut Option<SessionBlank>, payload: usize) -> Result<
     requires { is_some blank.old ≡ true }
     ensures there { is_some blank.new ≡ true }
     ensures takes { OnOk result (BlankTakes payload blank.new) }
+    ensures fits { (bytes : ℕ) → BlankTakes bytes blank.old → payload ≤ bytes → IsOk result }
     ensures same { (timers : Timers) → BlankIsFor blank.old timers → BlankIsFor blank.new timers }
 {
     match blank {
@@ -138,12 +139,14 @@ impl<W: Wrap + Drop> PeerSession<W> {
     }
 
     // Takes the memory of a next key session, with room for a payload of so many bytes.
-    fn make_next_for(&mut self, payload: usize) -> Result<(), NoMemory>
+    pub(crate) fn make_next_for(&mut self, payload: usize) -> Result<(), NoMemory>
         requires goes_on { GoesOn self.old }
         ensures same { (p : Peer) → PeerStands W.wrapped self.old p → PeerStands W.wrapped self.new p }
         ensures goes_on { GoesOn self.new }
         ensures made { OnOk result (MayBegin self.new) }
         ensures takes { OnOk result (BlankTakes payload self.new.blank) }
+        ensures fits { (bytes : ℕ) → MayBegin self.old → BlankTakes bytes self.old.blank → payload ≤ bytes → IsOk result }
+        ensures stage { newest_stage self.new.slots ≡ newest_stage self.old.slots }
         ensures count { count self.new ≡ count self.old }
         ensures since { since self.new ≡ since self.old }
     {
@@ -162,6 +165,8 @@ impl<W: Wrap + Drop> PeerSession<W> {
         ensures goes_on { GoesOn self.new }
         ensures made { MayBegin self.new }
         ensures takes { OnOk result (BlankTakes payload self.new.blank) }
+        ensures fits { (bytes : ℕ) → BlankTakes bytes self.old.blank → payload ≤ bytes → IsOk result }
+        ensures slots { self.new.slots ≡ self.old.slots }
         ensures count { count self.new ≡ count self.old }
         ensures since { since self.new ≡ since self.old }
     {
@@ -178,6 +183,8 @@ impl<W: Wrap + Drop> PeerSession<W> {
         ensures count { count self.new ≡ count self.old }
         ensures since { since self.new ≡ since self.old }
         ensures texts { (n : ℕ) → text_at self.new.slots n ≡ text_at self.old.slots n }
+        ensures stage { newest_stage self.new.slots ≡ newest_stage self.old.slots }
+        ensures blank { is_some self.old.blank ≡ true → self.new.blank ≡ self.old.blank }
     {
         match self.make_blank() {
             Ok(()) => {}
@@ -200,6 +207,7 @@ impl<W: Wrap + Drop> PeerSession<W> {
         ensures count { count self.new ≡ count self.old }
         ensures since { since self.new ≡ since self.old }
         ensures slots { self.new.slots ≡ self.old.slots }
+        ensures blank { is_some self.old.blank ≡ true → self.new.blank ≡ self.old.blank }
     {
         if self.blank.is_some() {
             return Ok(());

@@ -1,6 +1,6 @@
 //! Room in the texts of a client's open key sessions.
 
-ghost use Rattle.std.specs.Prelude.{◌≡◌, ◌≤◌, ◌<◌, ◌+◌, ◌*◌, ◌-◌, ◌^◌, ℕ, true, is_some, IfSome, OnOk};
+ghost use Rattle.std.specs.Prelude.{◌≡◌, ◌≤◌, ◌<◌, ◌+◌, ◌*◌, ◌-◌, ◌^◌, ℕ, true, is_some, IfNone, IfSome, OnOk};
 ghost use Rattle.key_sessions.specs.Slots.{room, text_at};
 ghost use Rattle.peer_table.specs.Peer.{Peer};
 ghost use Rattle.peer_session.specs.Standing.{GoesOn, PeerStands, count, since};
@@ -10,9 +10,11 @@ use crate::session::PeerSession;
 use tls_crypt::Wrap;
 use vpn_base::NoMemory;
 
-// For how many bytes an outbox has to have room after a payload of so many that nothing else was held before.
-fn least_bytes(payload: usize) -> Option<usize>
-    ensures { IfSome result (λ n. n ≡ 7200 + 12 * payload) }
+// For how many bytes an outbox has to have room after a payload of so many that nothing else was held before. None comes
+// where that is no number of bytes.
+pub(crate) fn least_bytes(payload: usize) -> Option<usize>
+    ensures room { IfSome result (λ n. n ≡ 7200 + 12 * payload) }
+    ensures none { IfNone result (2 ^ 64 ≤ 7200 + 12 * payload) }
 {
     match payload.checked_mul(12) {
         None => None,

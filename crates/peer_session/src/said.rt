@@ -19,7 +19,7 @@ use vpn_base::{Addr, Cause, Moment, NoMemory, Or, Sid};
 use vpn_links::Outbox;
 
 // Why the client ends with a link's end.
-fn cause_of(end: LinkEnd) -> Cause
+pub(crate) fn cause_of(end: LinkEnd) -> Cause
     ensures { result ≡ cause_of end }
 {
     match end {

@@ -1,8 +1,10 @@
 //! What is due at a moment.
 
-ghost use Rattle.std.specs.Prelude.{◌≡◌, ℕ, Bool, ◌&&◌, ◌*◌, ◌^◌, Some, nat_le, slice_get};
+ghost use Rattle.std.specs.Prelude.{◌≡◌, ℕ, Bool, true, ◌&&◌, ◌*◌, ◌^◌, Some, nat_le, slice_get};
 ghost use Rattle.vpn_base.specs.declared.names.Conn.{Conn};
 ghost use Rattle.key_sessions.specs.Looks.{newest_seen};
+ghost use Rattle.key_sessions.specs.Slots.{newest_stage};
+ghost use Rattle.key_sessions.specs.declared.slot.Stage.TheVariants as stages;
 ghost use Rattle.peer_table.specs.ControlPackets.{newest_is_finished};
 ghost use Rattle.peer_table.specs.KeySessions.{Session, has_passed};
 ghost use Rattle.peer_table.specs.Peer.{Peer};
@@ -48,9 +50,10 @@ fn is_finished(established: bool, newest: Newest) -> bool
 }
 
 impl<W: Wrap + Drop> PeerSession<W> {
-    // Whether the newest session is finished.
+    // Whether the newest session is finished, for which it has to have keys.
     pub(crate) fn newest_is_finished(&self, established: bool) -> bool
-        ensures { (p : Peer) → PeerStands W.wrapped self.now p → result ≡ newest_is_finished established p.sessions }
+        ensures finished { (p : Peer) → PeerStands W.wrapped self.now p → result ≡ newest_is_finished established p.sessions }
+        ensures keyed { result ≡ true → newest_stage self.now.slots ≡ stages.Keyed }
     {
         is_finished(established, self.slots.newest())
     }
