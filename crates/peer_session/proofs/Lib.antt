@@ -8,3 +8,4 @@ mod Ends
 mod Finished
 mod Lines
 mod Resets
+mod Ticking

@@ -2,3 +2,4 @@
 pub mod OpenOnes
 pub mod Beginnings
 pub mod Finished
+pub mod Ticking

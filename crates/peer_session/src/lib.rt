@@ -10,6 +10,7 @@ mod numbers;
 mod packets;
 mod ready;
 mod session;
+mod tick;
 mod ticks;
 
 pub use session::PeerSession;

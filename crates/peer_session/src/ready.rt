@@ -1,7 +1,7 @@
 //! Memory that is taken ahead.
 
 ghost use Rattle.std.specs.Prelude.{◌≡◌, ◌≤◌, ℕ, true, is_some, IsOk, OnOk};
-ghost use Rattle.key_sessions.specs.Slots.{text_at};
+ghost use Rattle.key_sessions.specs.Slots.{newest_stage, text_at};
 ghost use Rattle.peer_table.specs.Peer.{Peer};
 ghost use Rattle.peer_session.specs.Ready.{MayBegin};
 ghost use Rattle.peer_session.specs.Standing.{GoesOn, PeerStands, count, since};
@@ -22,6 +22,7 @@ impl<W: Wrap + Drop> PeerSession<W> {
         ensures count { count self.new ≡ count self.old }
         ensures since { since self.new ≡ since self.old }
         ensures texts { (n : ℕ) → text_at self.new.slots n ≡ text_at self.old.slots n }
+        ensures stage { newest_stage self.new.slots ≡ newest_stage self.old.slots }
     {
         match self.make_blank() {
             Ok(()) => {}
