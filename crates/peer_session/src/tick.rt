@@ -233,7 +233,14 @@ impl<W: Wrap + Drop> PeerSession<W> {
         match numbers {
             [] => turn,
             [number, rest @ ..] => {
-                let turn = self.tick_unless(is_number(retired, *number), *number, turn, to, now, out);
+                let turn = self.tick_unless(
+                    is_number(retired, *number),
+                    *number,
+                    turn,
+                    to,
+                    now,
+                    out,
+                );
                 self.tick_each(rest, retired, turn, to, now, out)
             }
         }
@@ -268,14 +275,7 @@ impl<W: Wrap + Drop> PeerSession<W> {
     }
 
     // What is due is sent again in the open session of this number, on whose link the wrap ids did not end.
-    fn tick_at(
-        &mut self,
-        number: u64,
-        turn: Turn,
-        to: Addr,
-        now: Moment,
-        out: &mut Outbox,
-    ) -> Turn
+    fn tick_at(&mut self, number: u64, turn: Turn, to: Addr, now: Moment, out: &mut Outbox) -> Turn
         requires goes_on { MayGoOn self.old }
         requires over { self.old.is_over ≡ is_end turn }
         requires room { HasRoom out.old 6 7200 }
