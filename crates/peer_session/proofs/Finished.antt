@@ -5,7 +5,7 @@ use Rattle.std.proofs.lemmas.Bool.{false≢true}
 use Rattle.std.proofs.lemmas.Option.{none-some}
 use Rattle.vpn_base.specs.declared.names.Conn.{Conn}
 use Rattle.peer_table.specs.ControlPackets.{is_finished_as, newest_is_finished}
-use Rattle.peer_table.specs.KeySessions.{Session, Stage, began_before, has_keys, has_passed, is_keyed, newest, newest_session, newest_usable}
+use Rattle.peer_table.specs.KeySessions.{Session, Stage, began_before, has_keys, has_passed, is_keyed, newest, newest_usable}
 use Rattle.peer_table.specs.KeySessions as sessions
 use Rattle.peer_table.specs.Peer.{Peer}
 use Rattle.peer_table.specs.Places.{last_place, later}

@@ -1,6 +1,6 @@
 //! Time passes for a client's session.
 
-ghost use Rattle.std.specs.Prelude.{◌≡◌, ◌≤◌, ◌<◌, ◌+◌, ◌-◌, ◌*◌, ◌^◌, ℕ, Bool, true, false, not, List, length, Option, Some, None, is_some, replicate, unwrap_or, slice_get, IfOk, IsOk, OnOk, MatchResult};
+ghost use Rattle.std.specs.Prelude.{◌≡◌, ◌≤◌, ◌<◌, ◌+◌, ◌-◌, ◌*◌, ◌^◌, ℕ, Bool, true, false, not, length, Option, Some, None, is_some, replicate, unwrap_or, slice_get, IfOk, IsOk, OnOk, MatchResult};
 ghost use Rattle.std.specs.List.{filter};
 ghost use Rattle.vpn_base.specs.declared.names.Timers.{Timers};
 ghost use Rattle.vpn_links.specs.Actions.{Contents, Holds};
@@ -8,7 +8,7 @@ ghost use Rattle.vpn_links.specs.declared.events.Kind.TheVariants.{Tick};
 ghost use Rattle.reliable_send.specs.Sides.{IsNotMemory};
 ghost use Rattle.opcode_codec.specs.declared.opcodes.Opcode.TheVariants.{SoftReset};
 ghost use Rattle.control_link.specs.Calls.{Told};
-ghost use Rattle.key_sessions.specs.Slots.{newest_number, newest_stage};
+ghost use Rattle.key_sessions.specs.Slots.{newest_stage};
 ghost use Rattle.key_sessions.specs.declared.slot.Stage.TheVariants as stages;
 ghost use Rattle.peer_table.specs.Exchange.{session_closed};
 ghost use Rattle.peer_table.specs.KeySessions.{Session, session_begun};
@@ -32,14 +32,14 @@ use tls_crypt::Wrap;
 use vpn_base::{Addr, Cause, Conn, Moment, NoMemory, Or, Sid};
 use vpn_links::{Effect, Outbox};
 
-// So many effects and datagrams come of a tick at most: in three open sessions and a new one 6 datagrams each, a
-// connection that is opened and one that is closed.
+// At most so many effects and datagrams come of a tick: 6 datagrams of each of three open sessions and of a new
+// one, a connection that is opened and one that is closed.
 const EFFECTS: usize = 26;
 
-// So many bytes the datagrams have at most.
+// At most so many bytes the datagrams have.
 const BYTES: usize = 28_800;
 
-// What a call of a control link that had its memory comes to.
+// What a call of a control link comes to, which did not end for want of memory.
 fn turn_of(answer: Result<(), Or<LinkEnd>>) -> Turn
     requires { IsNotMemory answer }
     ensures { (end : Option LinkEnd) → Told answer end → result ≡ turn_of end }
@@ -117,7 +117,10 @@ fn next_text(
 }
 
 impl<W: Wrap + Drop> PeerSession<W> {
-    /// Time has passed. `idle` says that nothing fresh came of the client for too long.
+    /// Time has passed. The client ends where its negotiation did not finish in time, or where `idle` says that
+    /// nothing fresh came of it for too long. Else what is due is sent again, the key session that may no longer
+    /// be used is closed, and the next one begins where it is due, on this next engine connection. At want of
+    /// memory nothing has changed.
     pub fn on_tick(
         &mut self,
         next_conn: Conn,

@@ -1,4 +1,4 @@
-use Rattle.std.proofs.Common.{suc, ◌-◌, ◌∷◌, get_or, length, take, drop, sym, subst}
+use Rattle.std.proofs.Common.{suc, ◌-◌, get_or, length, take, drop, sym, subst}
 use Rattle.std.specs.Prelude.{not, slice_get}
 use Rattle.std.specs.List.{filter}
 use Rattle.peer_table.specs.Time.{is_number, resent}

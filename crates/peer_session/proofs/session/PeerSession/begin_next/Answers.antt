@@ -1,4 +1,4 @@
-use Rattle.std.proofs.Common.{◌+◌, ◌≡◌, ◌++◌, ◌∷◌, [], IsOk, length, ap, sym, subst, ◌∙◌, refl, arith}
+use Rattle.std.proofs.Common.{◌+◌, ◌++◌, ◌∷◌, [], length, ap, subst, ◌∙◌, refl, arith}
 use Rattle.std.specs.Prelude.{replicate, unwrap_or}
 use Rattle.vpn_base.specs.declared.names.Sid.{Sid}
 use Rattle.vpn_base.specs.declared.names.Timers.{Timers}
@@ -7,7 +7,6 @@ use Rattle.opcode_codec.specs.declared.opcodes.Opcode.TheVariants.{SoftReset}
 use Rattle.control_link.specs.Calls.{Told}
 use Rattle.peer_table.specs.ControlPackets.{next_session}
 use Rattle.peer_table.specs.KeySessions.{session_begun}
-use Rattle.peer_table.specs.Peer.{remote_of}
 use Rattle.peer_table.specs.Time.{ticking}
 use Rattle.peer_lines.specs.Calls.{Leaves, begun_sent, linked, still, unless_wanting}
 use Rattle.peer_lines.specs.Standing.{StandsFor}

@@ -3,7 +3,6 @@ use Rattle.std.specs.Prelude.{not}
 use Rattle.std.specs.List.{filter}
 use Rattle.vpn_base.specs.declared.names.Timers.{Timers}
 use Rattle.peer_table.specs.Exchange.{session_closed}
-use Rattle.peer_table.specs.KeySessions.{open_numbers}
 use Rattle.peer_table.specs.Peer.{answered}
 use Rattle.peer_table.specs.Time.{is_number, resent, retired, staying}
 use Rattle.peer_table.specs.declared.outcomes.Turn.TheVariants.{Going}
@@ -39,11 +38,11 @@ returns-clause-done g c = λ before p established idle stands holds.
     let closed = subst (λ r. HasDone g.W.Wrap.wrapped c.close_retired.new.self c.tick_each-turn.result before c.close_retired.new.out c.args.to (session_closed r so_far))
     (retired_still (staying p (retired p now)) now now (answered p Going))
     (c.close_retired.ensures.done before c.args.to c.tick_each-turn.result so_far ticked) in
-    done_at g.W.Wrap.wrapped c.begin_if-turn.new.self c.begin_if-turn.result before c.begin_if-turn.new.out c.args.to _ c.args.now
+    done_at g.W.Wrap.wrapped c.begin_if-turn.new.self c.begin_if-turn.result before c.begin_if-turn.new.out c.args.to _ _
     (c.begin_if-turn.ensures.done before (session_closed (retired p now) so_far) established idle closed)
 
 pub returns-clause-goes_on : goal.returns-clause-goes_on
-returns-clause-goes_on g c = may_at c.begin_if-turn.new.self c.args.now c.begin_if-turn.ensures.goes_on
+returns-clause-goes_on g c = may_at c.begin_if-turn.new.self _ c.begin_if-turn.ensures.goes_on
 
 pub returns-clause-count : goal.returns-clause-count
 unfolding count

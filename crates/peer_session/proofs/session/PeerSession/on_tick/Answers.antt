@@ -1,11 +1,11 @@
-use Rattle.std.proofs.Common.{ap, sym, subst, ◌∙◌, refl, arith}
+use Rattle.std.proofs.Common.{ap, sym, subst, ◌∙◌, arith}
 use Rattle.std.proofs.lemmas.Bool.{false≢true}
 use Rattle.std.proofs.lemmas.List.{append-nil}
 use Rattle.peer_table.specs.Outboxes.{Leaves}
 use Rattle.peer_table.specs.Time.{ticking}
 use Rattle.peer_session.specs.Standing.{PeerStands}
 use Rattle.peer_session.specs.internal.Ticking.{HasDone}
-use Rattle.peer_session.proofs.Ticking.{all_gone, goes_unless, idle_ends, late_ends, none_yet, tick_taken}
+use Rattle.peer_session.proofs.Ticking.{all_gone, goes_unless, idle_ends, late_ends, tick_taken}
 use Rattle.peer_session.proofs.session.PeerSession.on_tick.Goals as goal
 
 pub returns-then-is_late-clause-left : goal.returns-then-is_late-clause-left
