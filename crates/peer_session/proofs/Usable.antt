@@ -51,7 +51,8 @@ pub newest_keyed : (ss : List Session) (n : ℕ) → newest_usable ss ≡ Some n
 unfolding newest_usable
 newest_keyed ss n is = last_keyed ss n is
 
-in_front : (m : ℕ) (ss : List Session) (n : ℕ) (s : Session) → slice_get (take m ss) n ≡ Some s → slice_get ss n ≡ Some s
+-- what stands among the first ones stands there
+pub in_front : (m : ℕ) (ss : List Session) (n : ℕ) (s : Session) → slice_get (take m ss) n ≡ Some s → slice_get ss n ≡ Some s
 in_front zero ss n s at = absurd (none-some s at)
 in_front (suc m) [] n s at = absurd (none-some s at)
 in_front (suc m) (x ∷ ss) zero s at = at

@@ -91,3 +91,9 @@ since s = s.since.0
 abbrev pub UsableAreOpen : Peer → ℕ → Type 0
 UsableAreOpen p at = (n : ℕ) (s : Session) → retiring p.sessions ≡ Some n → slice_get p.sessions n ≡ Some s →
     in_transition p.timers at p.sessions ≡ true → s.is_open ≡ true
+
+-- a session that was closed as no longer usable is not usable later: the one before the last with keys is open, or it could no longer be
+-- used at this moment
+unfoldable pub RetiredBy : ℕ → Peer → Type 0
+RetiredBy at p = (n : ℕ) (s : Session) → retiring p.sessions ≡ Some n → slice_get p.sessions n ≡ Some s → s.is_open ≡ false →
+    in_transition p.timers at p.sessions ≡ false

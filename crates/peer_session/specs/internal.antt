@@ -2,4 +2,7 @@
 pub mod OpenOnes
 pub mod Beginnings
 pub mod Finished
+pub mod Exchanges
+pub mod Turns
+pub mod Rooms
 pub mod Ticking

@@ -3,14 +3,23 @@
 
 mod begin;
 mod closing;
+mod engine;
+mod exchange;
+mod laws;
 mod looks;
 mod messages;
 mod name;
+mod named;
 mod numbers;
 mod packets;
+mod plain;
 mod ready;
+mod rooms;
+mod said;
 mod session;
 mod tick;
 mod ticks;
+mod turns;
 
+pub use laws::retired_sessions_stay_retired;
 pub use session::PeerSession;

@@ -190,7 +190,7 @@ impl<W: Wrap + Drop> PeerSession<W> {
     }
 
     // The key exchange message in the plain text of the session of this number, which has a name and no keys.
-    fn whole_message(&self, number: u64) -> Option<(Km2View<'_>, usize)>
+    pub(crate) fn whole_message(&self, number: u64) -> Option<(Km2View<'_>, usize)>
         ensures { (p : Peer) (s : Session) → PeerStands W.wrapped self.now p → slice_get p.sessions number ≡ Some s → s.stage ≡ Named →
             option_map (λ m. (km2_seen m.0, m.1)) result ≡ whole_of (reading (other p.role) s.plain) }
     {

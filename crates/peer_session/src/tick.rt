@@ -1,6 +1,6 @@
 //! Time passes for a client's session.
 
-ghost use Rattle.std.specs.Prelude.{◌≡◌, ◌≤◌, ◌<◌, ◌+◌, ◌-◌, ◌*◌, ◌^◌, ℕ, Bool, true, false, not, length, Option, Some, None, is_some, replicate, unwrap_or, slice_get, IfOk, IsOk, OnOk, MatchResult};
+ghost use Rattle.std.specs.Prelude.{◌≡◌, ◌≤◌, ◌<◌, ◌+◌, ◌-◌, ◌*◌, ◌^◌, ℕ, Bool, true, false, not, length, Option, Some, None, is_some, slice_get, IfOk, IsOk, OnOk, MatchResult};
 ghost use Rattle.std.specs.List.{filter};
 ghost use Rattle.vpn_base.specs.declared.names.Timers.{Timers};
 ghost use Rattle.vpn_links.specs.Actions.{Contents, Holds};
@@ -21,6 +21,7 @@ ghost use Rattle.peer_session.specs.Standing.{BlankIsFor, GoesOn, PeerStands, co
 ghost use Rattle.peer_session.specs.internal.Ticking.{AreOpenYet, HasDone, KeepsNext, MayGoOn, gone_with, is_end, resent_unless};
 
 use crate::numbers::OpenNumbers;
+use crate::said::cause_of;
 use crate::session::PeerSession;
 use control_link::LinkEnd;
 use key_sessions::{KeySession, kid_of};
@@ -29,7 +30,7 @@ use peer_lines::{SessionBlank, SessionChannels};
 use peer_table::Turn;
 use std::alloc::Global;
 use tls_crypt::Wrap;
-use vpn_base::{Addr, Cause, Conn, Moment, NoMemory, Or, Sid};
+use vpn_base::{Addr, Cause, Conn, Moment, NoMemory, Or};
 use vpn_links::{Effect, Outbox};
 
 // At most so many effects and datagrams come of a tick: 6 datagrams of each of three open sessions and of a new
@@ -47,8 +48,7 @@ fn turn_of(answer: Result<(), Or<LinkEnd>>) -> Turn
     match answer {
         Ok(()) => Turn::Going,
         Err(Or::Memory) => Turn::Going,
-        Err(Or::Why(LinkEnd::TextFull)) => Turn::Over(Cause::TextFull),
-        Err(Or::Why(LinkEnd::WrapSpent)) => Turn::Over(Cause::WrapSpent),
+        Err(Or::Why(end)) => Turn::Over(cause_of(end)),
     }
 }
 
@@ -75,16 +75,6 @@ fn is_end(turn: Turn) -> bool
         Turn::Named => false,
         Turn::Exchange => false,
         Turn::Over(_) => true,
-    }
-}
-
-// The other end's session id in what is sent; before it is fixed, nothing is sent that has it.
-fn sid_sent(remote: Option<Sid>) -> Sid
-    ensures { result ≡ unwrap_or remote (record { 0 = replicate 8 0 }) }
-{
-    match remote {
-        None => Sid([0; 8]),
-        Some(sid) => sid,
     }
 }
 
@@ -290,7 +280,7 @@ impl<W: Wrap + Drop> PeerSession<W> {
         ensures uses { Uses out.old out.new 6 7200 }
         ensures keeps { KeepsNext self.old self.new }
     {
-        let remote = sid_sent(self.remote);
+        let remote = self.remote_sent();
         match self.slots.take_text(number) {
             None => turn,
             Some(mut text) => {
@@ -377,6 +367,7 @@ impl<W: Wrap + Drop> PeerSession<W> {
         ensures count { count self.new ≡ count self.old + 1 }
     {
         let number = self.slots.newest().number + 1;
+        let remote = self.remote_sent();
         let mut text = next_text(self.alloc, &mut self.blank, next_conn, number);
         let added = out.add(&Effect::EngineOpen {
             conn: next_conn,
@@ -384,7 +375,6 @@ impl<W: Wrap + Drop> PeerSession<W> {
         });
         prove!(added.is_ok());
         let _ = added;
-        let remote = sid_sent(self.remote);
         let answer = text.send_ready(&mut self.envelope, remote, to, now, out);
         let begun = self.slots.begin_next(KeySession::begin(text, number, now));
         prove!(begun.is_ok());

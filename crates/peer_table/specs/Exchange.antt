@@ -1,5 +1,5 @@
 -- The key exchange of the newest session, and the messages behind it.
-use Rattle.std.specs.Prelude.{ℕ, zero, suc, ◌+◌, ◌&&◌, ◌==◌, max, Bool, List, [], ◌∷◌, ◌++◌, length, take, drop, Option, Some, None, unwrap_or, option_map, slice_get, if◌then◌else◌}
+use Rattle.std.specs.Prelude.{ℕ, zero, suc, ◌+◌, ◌&&◌, ◌==◌, ◌≡◌, max, Bool, false, List, [], ◌∷◌, ◌++◌, length, take, drop, Option, Some, None, unwrap_or, option_map, slice_get, if◌then◌else◌}
 use Rattle.std.specs.List.{before_first, find, list_any}
 use Rattle.vpn_base.specs.declared.names.Cause.TheVariants.{NoCipher}
 use Rattle.vpn_base.specs.declared.names.Cipher.{Cipher}
@@ -186,3 +186,9 @@ most_unread (s ∷ sessions) = if s.is_open then max (length (unread s)) (most_u
 abbrev pub all_unread : List Session → ℕ
 all_unread [] = 0
 all_unread (s ∷ sessions) = if s.is_open then length (unread s) + all_unread sessions else all_unread sessions
+
+-- ---- before the exchange
+
+-- of the newest session nothing was read before it has keys
+abbrev pub NothingReadBefore : List Session → Type 0
+NothingReadBefore sessions = (s : Session) → newest_session sessions ≡ Some s → has_keys s ≡ false → s.read ≡ 0

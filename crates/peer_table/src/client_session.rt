@@ -13,7 +13,7 @@ ghost use Rattle.peer_table.specs.Peer.{Peer, began};
 ghost use Rattle.peer_table.specs.ControlPackets.{control_came};
 ghost use Rattle.peer_table.specs.DataPackets.{data_came, sealed_to};
 ghost use Rattle.peer_table.specs.EngineAnswers.{engine_came, open_with};
-ghost use Rattle.peer_table.specs.Exchange.{after_message, all_unread, first_conn, cipher_ahead, cipher_of, exchanged, most_unread, next_message};
+ghost use Rattle.peer_table.specs.Exchange.{NothingReadBefore, after_message, all_unread, first_conn, cipher_ahead, cipher_of, exchanged, most_unread, next_message};
 ghost use Rattle.peer_table.specs.KeySessions.{live_with, usable_with};
 ghost use Rattle.peer_table.specs.Naming.{number_of, place};
 ghost use Rattle.peer_table.specs.Outboxes.{GoesOnAfter, GoesOnUnlessOver, HasRoom, Uses, IsUnchanged, Leaves, LeavesSealed, LeavesUnless, TellsOpened, actions_of, incoming, message_seen};
@@ -52,6 +52,9 @@ pub trait ClientSession {
     /// An answer for a client's file may make a key exchange, and does nothing else here.
     ghost ready_for_file: { (s : Self) (cid : Cid) (answer : FileAnswer) (established : Bool) (effects bytes : ℕ) →
         is_ready s (File cid answer) established effects bytes → may_exchange s };
+
+    /// Nothing is read of a key session's plain text before its key exchange.
+    ghost nothing_read_before: { (s : Self) (p : Peer) → stands s p → NothingReadBefore p.sessions };
 
     /// A session whose key session 0 begins on this connection, which is opened, at this moment in milliseconds.
     /// The own session id, the timers and the half of the static key for this role are those of its packets.

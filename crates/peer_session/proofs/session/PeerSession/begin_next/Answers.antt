@@ -1,6 +1,4 @@
 use Rattle.std.proofs.Common.{◌+◌, ◌++◌, ◌∷◌, [], length, ap, subst, ◌∙◌, refl, arith}
-use Rattle.std.specs.Prelude.{replicate, unwrap_or}
-use Rattle.vpn_base.specs.declared.names.Sid.{Sid}
 use Rattle.vpn_base.specs.declared.names.Timers.{Timers}
 use Rattle.vpn_links.specs.Actions.{EngineOpen, Holds}
 use Rattle.opcode_codec.specs.declared.opcodes.Opcode.TheVariants.{SoftReset}
@@ -27,8 +25,7 @@ returns-clause-done g c = λ before o established idle done.
     let now = c.args.now.0 in
     let s = next_session c.args.next_conn now p in
     let l = reset_sent c.args.next_conn now p in
-    let zeros : Sid = record { 0 = replicate 8 0 } in
-    let remote = c.sid_sent-remote.ensures ∙ ap (λ r. unwrap_or r zeros) done.left.peer.remote_is in
+    let remote = c.remote_sent-remote.ensures p done.left.peer in
     let number = next_number p.sessions c.newest-number.result (c.newest-number.ensures.seen p.sessions done.left.peer.slots_stand) in
     let text_stands = subst (λ (t : Timers). StandsFor c.next_text-text.result (session_begun t c.args.next_conn (length p.sessions) SoftReset now)) done.left.peer.timers_are
     (subst (λ n. StandsFor c.next_text-text.result (session_begun c.args.self.now.timers c.args.next_conn n SoftReset now)) number

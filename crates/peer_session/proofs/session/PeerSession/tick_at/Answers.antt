@@ -1,6 +1,5 @@
 use Rattle.std.proofs.Common.{ap, sym, subst, ◌∙◌}
-use Rattle.std.specs.Prelude.{is_some, replicate, unwrap_or}
-use Rattle.vpn_base.specs.declared.names.Sid.{Sid}
+use Rattle.std.specs.Prelude.{is_some}
 use Rattle.control_link.specs.Calls as link
 use Rattle.control_link.specs.Calls.{Told}
 use Rattle.peer_table.specs.Peer.{remote_of}
@@ -28,8 +27,7 @@ unfolding PeerStands due_sent
 returns-in-Some-clause-done g c = λ before o s done at is_open spent.
     let h = o.peer.envelope in
     let l = link.ticked s.link h (remote_of o.peer) c.args.now.0 in
-    let zeros : Sid = record { 0 = replicate 8 0 } in
-    let remote = c.sid_sent-remote.ensures ∙ ap (λ r. unwrap_or r zeros) done.left.peer.remote_is in
+    let remote = c.remote_sent-remote.ensures o.peer done.left.peer in
     let text_stands = c.in-Some.ensures.text o.peer.sessions s done.left.peer.slots_stand at in
     let left = subst (λ r. Leaves g.W.Wrap.wrapped c.tick-answer.new.self c.tick-answer.new.env c.args.out.now c.tick-answer.new.out c.args.to
     (unless_wanting c.tick-answer.result (due_sent s h r c.args.now.0) (still s h))) remote
