@@ -29,3 +29,4 @@ mod Wraps
 mod Taking
 mod Beginning
 mod Placing
+mod Ticking

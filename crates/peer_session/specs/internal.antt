@@ -7,3 +7,4 @@ pub mod Turns
 pub mod Rooms
 pub mod Unread
 pub mod Taking
+pub mod Ticking

@@ -49,7 +49,7 @@ fn is_over(turn: &Result<Turn, NoMemory>) -> bool
 impl<W: Wrap + Drop> PeerSession<W> {
     // The other end's session id in what is sent; before it is fixed nothing is sent that has it.
     #[tactic(auto, unfolding(crate::specs::Standing::PeerStands))]
-    fn remote_sent(&self) -> Sid
+    pub(crate) fn remote_sent(&self) -> Sid
         ensures { (p : Peer) → PeerStands W.wrapped self.now p → result ≡ remote_of p }
     {
         match self.remote {
