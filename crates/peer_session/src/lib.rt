@@ -22,7 +22,6 @@ mod said;
 mod session;
 mod tick;
 mod ticks;
-mod stub;
 mod turns;
 
 pub use laws::retired_sessions_stay_retired;

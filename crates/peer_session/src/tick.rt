@@ -338,14 +338,14 @@ impl<W: Wrap + Drop> PeerSession<W> {
         ensures count { count self.new ≤ count self.old + 1 }
     {
         if renews {
-            self.begin_next(next_conn, turn, to, now, out)
+            self.renew(next_conn, turn, to, now, out)
         } else {
             turn
         }
     }
 
     // The next session begins: its connection is opened, and its reset sent.
-    fn begin_next(
+    fn renew(
         &mut self,
         next_conn: Conn,
         turn: Turn,

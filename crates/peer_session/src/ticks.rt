@@ -1,9 +1,7 @@
 //! What is due at a moment.
 
-ghost use Rattle.std.specs.Prelude.{◌≡◌, ℕ, Bool, true, ◌&&◌, ◌*◌, ◌^◌, Some, nat_le, slice_get};
-ghost use Rattle.vpn_base.specs.declared.names.Conn.{Conn};
-ghost use Rattle.key_sessions.specs.Looks.{newest_seen};
 ghost use Rattle.std.specs.Prelude.{◌≡◌, Bool, true, not, ◌&&◌, ◌||◌, ◌==◌, ◌*◌, ◌^◌, Some, nat_le, slice_get};
+ghost use Rattle.vpn_base.specs.declared.names.Conn.{Conn};
 ghost use Rattle.key_sessions.specs.Slots.{newest_stage};
 ghost use Rattle.key_sessions.specs.declared.slot.Stage.TheVariants as stages;
 ghost use Rattle.peer_table.specs.ControlPackets.{newest_is_finished};

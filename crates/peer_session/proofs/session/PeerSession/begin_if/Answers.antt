@@ -5,6 +5,6 @@ use Rattle.peer_session.proofs.session.PeerSession.begin_if.Goals as goal
 
 pub returns-then-renews-clause-done : goal.returns-then-renews-clause-done
 returns-then-renews-clause-done g c = λ before o established idle done.
-    subst (λ b. HasDone g.W.Wrap.wrapped c.begin_next.new.self c.begin_next.result before c.begin_next.new.out c.args.to
+    subst (λ b. HasDone g.W.Wrap.wrapped c.renew.new.self c.renew.result before c.renew.new.out c.args.to
     (renewed (ticking c.args.now.0 c.args.next_conn established idle) b o)) (sym c.if-renews.true)
-    (c.begin_next.ensures.done before o established idle done)
+    (c.renew.ensures.done before o established idle done)
