@@ -1,10 +1,9 @@
 -- A control packet begins the next key session: what the client's session stands for then, and what is answered.
-use Rattle.std.proofs.Common.{◌≡◌, ◌++◌, ◌+◌, ◌<◌, ◌≤◌, ◌*◌, ℕ, zero, suc, Bool, true, false, List, [], ◌∷◌, length, Option, Some, None, Ok, refl, ap, sym, subst, ◌∙◌, arith}
-use Rattle.std.specs.Prelude.{is_some, slice_get}
+use Rattle.std.proofs.Common.{◌≡◌, ◌++◌, ℕ, Bool, true, false, List, [], ◌∷◌, length, Option, Some, Ok, refl, ap, sym, subst, ◌∙◌}
+use Rattle.std.specs.Prelude.{is_some}
 use Rattle.std.specs.Option.{option_or}
 use Rattle.std.proofs.lemmas.Bool.{false≢true}
 use Rattle.std.proofs.lemmas.List.{append_assoc}
-use Rattle.std.proofs.lemmas.Option.{none-some}
 use Rattle.vpn_base.specs.declared.address.Addr.{Addr}
 use Rattle.vpn_base.specs.declared.names.Conn.{Conn}
 use Rattle.vpn_base.specs.declared.names.Role.{Role}
@@ -16,10 +15,8 @@ use Rattle.tls_crypt.specs.Packets.{Wrapping}
 use Rattle.control_link.specs.declared.envelope.Envelope.{Envelope}
 use Rattle.control_link.specs.declared.link.LinkEnd.{LinkEnd}
 use Rattle.control_link.specs.Calls.{datagrams_to}
-use Rattle.control_link.specs.Envelope.{EnvelopeHistory, EnvelopeStands}
-use Rattle.key_sessions.specs.declared.slot.Newest.{Newest}
+use Rattle.control_link.specs.Envelope.{EnvelopeStands}
 use Rattle.key_sessions.specs.declared.slots.Slots.{Slots}
-use Rattle.key_sessions.specs.Looks.{newest_seen}
 use Rattle.key_sessions.specs.Sessions.{BeginsAt}
 use Rattle.key_sessions.specs.Slots.{IsWhole, SlotsStand}
 use Rattle.peer_lines.specs.declared.blank.SessionBlank.{SessionBlank}
@@ -28,7 +25,7 @@ use Rattle.peer_lines.specs.Calls.{GoesOn as LinkGoesOn, Leaves as LineLeaves, p
 use Rattle.peer_lines.specs.Standing.{BlankFor, StandsFor}
 use Rattle.peer_table.specs.declared.outcomes.Turn.{Turn}
 use Rattle.peer_table.specs.ControlPackets.{Incoming, begun_by, next_session, sender, wrap_accepted}
-use Rattle.peer_table.specs.KeySessions.{Session, newest, session_begun}
+use Rattle.peer_table.specs.KeySessions.{Session, session_begun}
 use Rattle.peer_table.specs.Outboxes.{Leaves, actions_of}
 use Rattle.peer_table.specs.Peer.{Peer, turn_of}
 use Rattle.peer_table.specs.Places.{changed_at}
@@ -36,7 +33,6 @@ use Rattle.peer_session.specs.declared.session.PeerSession.{PeerSession}
 use Rattle.peer_session.specs.Standing.{BlankIsFor, GoesOn, IsPeerOf, PeerStands, count}
 use Rattle.peer_session.proofs.Keeping.{goes_if, goes_more, goes_of, sound_more}
 use Rattle.peer_session.proofs.Taking.{all_stand, not_told}
-use Rattle.peer_session.proofs.Waits.{newest_at}
 use Rattle.peer_session.proofs.Wraps.{packet_own}
 
 -- ---- the next session

@@ -1,10 +1,9 @@
 -- A control packet is taken by one key session: what the client's session stands for then, and what is answered.
-use Rattle.std.proofs.Common.{◌≡◌, ◌++◌, ◌+◌, ◌≤◌, ℕ, suc, Bool, true, false, List, [], ◌∷◌, length, Option, Some, None, Result, Ok, Err, OnOk, OnErr, IfOk, IsOk, refl, ap, sym, subst, ◌∙◌, arith}
+use Rattle.std.proofs.Common.{◌≡◌, ◌++◌, ◌+◌, ℕ, Bool, false, List, Option, Some, None, Result, Ok, Err, OnOk, OnErr, IfOk, IsOk, refl, ap, sym, subst, ◌∙◌}
 use Rattle.std.specs.Prelude.{is_some, slice_get}
 use Rattle.std.specs.Option.{option_or}
 use Rattle.std.proofs.lemmas.Bool.{false≢true}
 use Rattle.std.proofs.lemmas.List.{append-nil}
-use Rattle.std.proofs.lemmas.Option.{none-some}
 use Rattle.vpn_base.specs.declared.address.Addr.{Addr}
 use Rattle.vpn_base.specs.declared.errors.Or.{Or}
 use Rattle.vpn_base.specs.declared.errors.Or.TheVariants.{Memory, Why}
@@ -29,7 +28,7 @@ use Rattle.peer_table.specs.Outboxes.{GoesOnUnlessOver, Leaves, actions_of}
 use Rattle.peer_table.specs.Peer.{Outcome, Peer, answered, turn_of}
 use Rattle.peer_table.specs.Places.{changed_at}
 use Rattle.peer_session.specs.declared.session.PeerSession.{PeerSession}
-use Rattle.peer_session.specs.Standing.{EachGoesOn, EachGoesOnUnless, EachIsSound, GoesOn, IsGoingOn, IsPeerOf, PeerStands, count}
+use Rattle.peer_session.specs.Standing.{EachGoesOnUnless, EachIsSound, GoesOn, IsPeerOf, PeerStands, count}
 use Rattle.peer_session.specs.internal.Taking.{LineKept, LineLeft, end_only, end_told}
 use Rattle.peer_session.proofs.Keeping.{PutBack, alike, goes_changed, goes_if, goes_of, no_change, slots_put, sound_at, sound_changed, still_sound}
 use Rattle.peer_session.proofs.Wraps.{packet_own}

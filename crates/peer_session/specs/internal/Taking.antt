@@ -18,7 +18,6 @@ use Rattle.control_link.specs.Calls.{datagrams_to}
 use Rattle.control_link.specs.Envelope.{EnvelopeHistory, EnvelopeStands}
 use Rattle.peer_table.specs.KeySessions.{Session}
 use Rattle.peer_table.specs.Outboxes.{actions_of}
-use Rattle.peer_table.specs.Peer.{Peer}
 use Rattle.peer_table.specs.Places.{changed_at}
 use Rattle.key_sessions.specs.declared.slots.Slots.{Slots}
 use Rattle.key_sessions.specs.Slots.{SlotsStand}

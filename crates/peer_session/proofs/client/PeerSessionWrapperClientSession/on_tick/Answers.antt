@@ -1,4 +1,4 @@
-use Rattle.std.proofs.Common.{◌≡◌, ℕ, false, Some}
+use Rattle.std.proofs.Common.{◌≡◌, false, Some}
 use Rattle.peer_table.specs.Time.{is_late, retired, ticked, ticking}
 use Rattle.peer_session.specs.Client.{ClientStands}
 use Rattle.peer_session.specs.Standing.{SessionStands, since}

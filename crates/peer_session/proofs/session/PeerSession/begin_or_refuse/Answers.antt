@@ -1,6 +1,4 @@
-use Rattle.std.proofs.Common.{◌≡◌, ◌+◌, Bool, Result, true, ap, sym, subst, ◌∙◌, refl, arith}
-use Rattle.peer_table.specs.declared.outcomes.Refused.{Refused}
-use Rattle.peer_table.specs.declared.outcomes.Turn.{Turn}
+use Rattle.std.proofs.Common.{◌≡◌, Bool, ap, sym, subst, ◌∙◌, arith}
 use Rattle.peer_table.specs.ControlPackets.{begun_by}
 use Rattle.peer_table.specs.Outboxes.{Leaves, LeavesUnless, incoming}
 use Rattle.peer_session.specs.Standing.{PeerStands, count}

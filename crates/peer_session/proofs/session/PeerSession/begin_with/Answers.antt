@@ -1,6 +1,4 @@
-use Rattle.std.proofs.Common.{◌≡◌, ◌+◌, length, ap, sym, subst, ◌∙◌, arith}
-use Rattle.control_link.specs.declared.link.LinkEnd.{LinkEnd}
-use Rattle.control_link.specs.Envelope.{EnvelopeStands}
+use Rattle.std.proofs.Common.{◌≡◌, ◌+◌, ap, subst, arith}
 use Rattle.peer_table.specs.ControlPackets.{next_session, sender}
 use Rattle.peer_table.specs.KeySessions.{Session}
 use Rattle.peer_table.specs.Outboxes.{incoming}

@@ -1,4 +1,4 @@
-use Rattle.std.proofs.Common.{ap, sym, ◌∙◌, arith}
+use Rattle.std.proofs.Common.{ap, ◌∙◌, arith}
 use Rattle.peer_table.specs.KeySessions.{kid_of}
 use Rattle.peer_session.specs.Standing.{PeerStands, count}
 use Rattle.peer_session.proofs.Seen.{next_number}

@@ -1,4 +1,4 @@
-use Rattle.std.proofs.Common.{◌≡◌, Err, Result, ap, sym, subst, ◌∙◌}
+use Rattle.std.proofs.Common.{Err, Result, ap, sym, subst, ◌∙◌}
 use Rattle.peer_table.specs.declared.outcomes.Refused.{Refused}
 use Rattle.peer_table.specs.declared.outcomes.Refused.TheVariants.{Replayed}
 use Rattle.peer_table.specs.declared.outcomes.Turn.{Turn}

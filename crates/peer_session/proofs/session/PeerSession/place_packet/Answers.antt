@@ -1,4 +1,4 @@
-use Rattle.std.proofs.Common.{◌≡◌, ◌%◌, Some, None, Result, ap, sym, subst, ◌∙◌}
+use Rattle.std.proofs.Common.{◌%◌, Result, ap, sym, subst, ◌∙◌}
 use Rattle.vpn_base.specs.declared.names.Timers.{Timers}
 use Rattle.peer_table.specs.declared.outcomes.Refused.{Refused}
 use Rattle.peer_table.specs.declared.outcomes.Turn.{Turn}

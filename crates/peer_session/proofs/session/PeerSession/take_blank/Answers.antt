@@ -1,5 +1,4 @@
 use Rattle.std.proofs.Common.{sym, subst, ◌∙◌}
-use Rattle.peer_session.specs.Ready.{BlankTakes}
 use Rattle.peer_session.specs.Standing.{BlankIsFor}
 use Rattle.peer_session.proofs.Beginning.{blank_count, blank_of, blank_stands, goes_with_blank}
 use Rattle.peer_session.proofs.session.PeerSession.take_blank.Goals as goal

@@ -1,9 +1,9 @@
-use Rattle.std.proofs.Common.{List, Some, ap, sym, subst, ◌∙◌, refl, arith}
+use Rattle.std.proofs.Common.{arith}
 use Rattle.peer_table.specs.ControlPackets.{sender}
 use Rattle.peer_table.specs.Outboxes.{incoming}
 use Rattle.peer_lines.specs.Calls.{packet_taken}
 use Rattle.peer_session.specs.Ready.{IsReady}
-use Rattle.peer_session.specs.Standing.{GoesOn, PeerStands}
+use Rattle.peer_session.specs.Standing.{PeerStands}
 use Rattle.peer_session.proofs.Keeping.{goes_at, goes_of, whole_of}
 use Rattle.peer_session.proofs.Taking.{goes_on_after, goes_on_turn, is_not_over, kept_stands, over_of, taken_answer, taken_count, taken_left}
 use Rattle.peer_session.proofs.Wraps.{still_fresh}

@@ -1,4 +1,4 @@
-use Rattle.std.proofs.Common.{◌+◌, ◌*◌, ◌≤◌, ◌^◌, length, arith}
+use Rattle.std.proofs.Common.{length, arith}
 use Rattle.peer_session.specs.Ready.{IsReady}
 use Rattle.peer_session.proofs.Ends.{if_ok}
 use Rattle.peer_session.proofs.session.PeerSession.take_memory.Goals as goal
