@@ -13,3 +13,4 @@ mod Exchanged
 mod Coming
 mod RunLaws
 pub mod Held
+mod Texts

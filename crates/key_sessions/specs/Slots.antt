@@ -1,5 +1,5 @@
 -- The slots of one client's key sessions, and the lists of all its key sessions for which they stand.
-use Rattle.std.specs.Prelude.{◌≡◌, ◌≢◌, ℕ, ◌-◌, Bool, true, false, List, [], ◌∷◌, ◌++◌, length, Option, Some, None, slice_get, is_some, vec_len, vec_capacity}
+use Rattle.std.specs.Prelude.{◌≡◌, ◌≢◌, ◌≤◌, ◌<◌, ℕ, ◌-◌, Bool, true, false, List, [], ◌∷◌, ◌++◌, length, Option, Some, None, slice_get, is_some, vec_len, vec_capacity}
 use Rattle.peer_table.specs.KeySessions.{Session, newest_usable}
 use Rattle.peer_table.specs.KeySessions as sessions
 use Rattle.peer_table.specs.Orderly.{IsOrderly}
@@ -118,6 +118,10 @@ text_in (Some slot) = slot.text
 -- the text of the session of this number, while it is open and not out
 unfoldable pub text_at : {T : Type 0} → Slots T → ℕ → Option T
 text_at slots number = text_in (slice_get (all_slots slots) number)
+
+-- no text is there from one number on and below another
+abbrev pub NoText : {T : Type 0} → Slots T → ℕ → ℕ → Type 0
+NoText slots from to = (n : ℕ) → from ≤ n → n < to → text_at slots n ≡ None
 
 -- no text is out
 unfoldable pub IsWhole : {T : Type 0} → Slots T → Type 0

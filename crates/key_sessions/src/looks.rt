@@ -1,6 +1,6 @@
 //! What the slots tell of their sessions.
 
-ghost use Rattle.std.specs.Prelude.{◌≡◌, ◌≤◌, ◌==◌, List, Some, None, IfSome, is_some, option_map, slice_get, if◌then◌else◌};
+ghost use Rattle.std.specs.Prelude.{◌≡◌, ◌≤◌, ◌==◌, ℕ, true, List, Some, None, IfSome, IfNone, is_some, option_map, slice_get, if◌then◌else◌};
 ghost use Rattle.std.specs.Option.{option_copied};
 ghost use Rattle.vpn_base.specs.declared.names.Timers.{Timers};
 ghost use Rattle.peer_table.specs.EngineAnswers.{open_with};
@@ -9,7 +9,7 @@ ghost use Rattle.peer_table.specs.KeySessions.{Session, has_passed, in_transitio
 ghost use Rattle.peer_table.specs.Peer.{Peer};
 ghost use Rattle.peer_table.specs.Time.{is_open_session, retired, retired_if};
 ghost use Rattle.key_sessions.specs.Looks.{began_of, keyed_with, keys_of_some, listed, listed_at, newest_seen, seen_as, seen_at};
-ghost use Rattle.key_sessions.specs.Slots.{IsWhole, LastIsOpen, SlotStands, SlotsStand, newest_name, newest_number, newest_stage, text_at};
+ghost use Rattle.key_sessions.specs.Slots.{IsWhole, LastIsOpen, NoText, SlotStands, SlotsStand, newest_name, newest_number, newest_stage, text_at};
 ghost use Rattle.key_sessions.specs.internal.Numbers.{number_before_that};
 
 use crate::session::kid_of;
@@ -228,6 +228,39 @@ impl<T: SessionText> Slots<T> {
         match self.slot(number) {
             None => None,
             Some(slot) => slot.text.as_ref(),
+        }
+    }
+
+    /// The first number, from this one on, of a session whose text is there. It looks at each number once.
+    #[tactic(auto, using(crate::proofs::Texts::none_further, crate::proofs::Texts::none_past), unfolding(crate::specs::Slots::newest_number))]
+    pub fn text_from(&self, from: u64) -> Option<u64>
+        ensures there { IfSome result (λ n. is_some (text_at self.now n) ≡ true) }
+        ensures further { IfSome result (λ n. from ≤ n) }
+        ensures within { IfSome result (λ n. n ≤ newest_number self.now) }
+        ensures first { IfSome result (λ n. NoText self.now from n) }
+        ensures none { IfNone result ((n : ℕ) → from ≤ n → text_at self.now n ≡ None) }
+    {
+        let newest = self.newest_number();
+        for number in from..newest {
+            if self.has_text(number) {
+                return Some(number);
+            }
+        }
+        if from <= newest && self.has_text(newest) {
+            Some(newest)
+        } else {
+            None
+        }
+    }
+
+    // Whether the text of the session of this number is there.
+    #[tactic(auto, unfolding(crate::specs::Slots::text_at))]
+    fn has_text(&self, number: u64) -> bool
+        ensures { result ≡ is_some (text_at self.now number) }
+    {
+        match self.slot(number) {
+            None => false,
+            Some(slot) => slot.text.is_some(),
         }
     }
 

@@ -318,7 +318,10 @@ fn shows(slots: &Slots<BareText>) -> bool {
         stage: Stage::Keyed,
         is_open: true,
     };
-    slots.at(0) == Some(seen) && slots.at(1) == None
+    slots.at(0) == Some(seen)
+        && slots.at(1) == None
+        && slots.text_from(0) == Some(0)
+        && slots.text_from(1) == None
 }
 
 #[test]

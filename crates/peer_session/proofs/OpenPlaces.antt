@@ -5,11 +5,11 @@ use Rattle.std.proofs.lemmas.Option.{none-some}
 use Rattle.vpn_base.specs.declared.names.Conn.{Conn}
 use Rattle.peer_table.specs.Places.{before_if, earlier, first_place, places_from}
 use Rattle.peer_table.specs.KeySessions.{Session, is_open, open_numbers}
-use Rattle.peer_table.specs.Exchange.{closing, has_message, most_unread, unread}
+use Rattle.peer_table.specs.Exchange.{all_unread, closing, has_message, most_unread, unread}
 use Rattle.peer_table.specs.Peer.{Closes, Doing}
 use Rattle.peer_table.specs.Time.{closings}
 use Rattle.key_sessions.specs.Looks.{listed, listed_as, listed_at}
-use Rattle.peer_session.specs.internal.OpenOnes.{closings_among, unread_among, unread_in, waiting_among, waits_in}
+use Rattle.peer_session.specs.internal.OpenOnes.{closings_among, unread_among, unread_in, unread_sum, waiting_among, waits_in}
 
 -- sessions stand at the places from this number on
 abbrev pub StandFrom : (ℕ → Option Session) → ℕ → List Session → Type 0
@@ -38,6 +38,22 @@ unread_from at k (s ∷ ss) stand =
 
 pub unread_is : (ss : List Session) → most_unread ss ≡ unread_among (slice_get ss) (open_numbers ss)
 unread_is ss = unread_from (slice_get ss) 0 ss (λ i. ap (slice_get ss) (omega arith))
+
+sum_by : (at : ℕ → Option Session) (k : ℕ) (s : Session) (b : Bool) (rest : List ℕ) (all : ℕ) → at k ≡ Some s → s.is_open ≡ b → all ≡ unread_sum at rest →
+    (if b then length (unread s) + all else all) ≡ unread_sum at (before_if b k rest)
+sum_by at k s true rest all here is same =
+    ap (λ (m : ℕ). length (unread s) + m) same
+    ∙ ap (λ (b : Bool). (if b then length (unread s) else 0) + unread_sum at rest) (sym is)
+    ∙ ap (λ (o : Option Session). unread_in o + unread_sum at rest) (sym here)
+sum_by at k s false rest all here is same = same
+
+sum_from : (at : ℕ → Option Session) (k : ℕ) (ss : List Session) → StandFrom at k ss → all_unread ss ≡ unread_sum at (places_from is_open k ss)
+sum_from at k [] stand = refl
+sum_from at k (s ∷ ss) stand =
+    sum_by at k s s.is_open (places_from is_open (suc k) ss) (all_unread ss) (head_of at k s ss stand) refl (sum_from at (suc k) ss (tail_of at k s ss stand))
+
+pub sum_is : (ss : List Session) → all_unread ss ≡ unread_sum (slice_get ss) (open_numbers ss)
+sum_is ss = sum_from (slice_get ss) 0 ss (λ i. ap (slice_get ss) (omega arith))
 
 -- ---- closing
 

@@ -1,12 +1,13 @@
 -- The sessions whose keys may be used.
-use Rattle.std.proofs.Common.{◌≡◌, ℕ, zero, suc, Bool, true, false, List, [], ◌∷◌, take, Option, Some, None, Err, refl, ap, sym, subst, ◌∙◌}
+use Rattle.std.proofs.Common.{◌≡◌, ◌≤◌, ◌<◌, ℕ, zero, suc, Bool, true, false, List, [], ◌∷◌, length, take, Option, Some, None, Err, refl, ap, sym, subst, ◌∙◌, arith}
 use Rattle.std.specs.Prelude.{slice_get, ◌==◌, if◌then◌else◌}
 use Rattle.std.proofs.lemmas.Bool.{false≢true}
 use Rattle.std.proofs.lemmas.Option.{none-some}
 use Rattle.vpn_base.specs.declared.names.Moment.{Moment}
 use Rattle.peer_table.specs.Places.{last_place, later}
-use Rattle.peer_table.specs.KeySessions.{Keys, Session, Stage, has_keys, in_transition, is_keyed, keyed_before, keys_of, kid_of, newest_usable, retiring, session_at, usable, usable_of, usable_with, with_kid}
+use Rattle.peer_table.specs.KeySessions.{Keys, Session, Stage, has_keys, in_transition, is_keyed, keyed_before, keys_of, kid_of, live_with, newest, newest_usable, retiring, session_at, usable, usable_of, usable_with, with_kid}
 use Rattle.peer_table.specs.KeySessions as sessions
+use Rattle.peer_table.specs.Orderly.{IsOrderly}
 use Rattle.peer_table.specs.declared.outcomes.SessionFault.TheVariants.{BadKey}
 use Rattle.peer_table.specs.DataPackets.{data_came, data_kid, ids_are_spent, opened_by, opened_in, sealed_by, sealed_in, sealed_to}
 use Rattle.peer_table.specs.Peer.{Peer, answered}
@@ -15,6 +16,7 @@ use Rattle.key_sessions.specs.Slots.{LastIsOpen, SlotsStand}
 use Rattle.peer_lines.specs.declared.channels.SessionChannels.{SessionChannels}
 use Rattle.peer_lines.specs.Standing.{StandsFor}
 use Rattle.peer_session.specs.Standing.{UsableAreOpen}
+use Rattle.peer_session.proofs.OpenPlaces.{OpenAt}
 
 -- a session with keys, and its keys
 pub record KeyedAt (ss : List Session) (n : ℕ) : Type 0 where
@@ -128,3 +130,43 @@ none_opened p datagram moment is = ap (λ (o : Option ℕ). opened_in p datagram
 pub last_open : (ss : List Session) (slots : Slots SessionChannels) → SlotsStand StandsFor slots ss → LastIsOpen ss
 unfolding SlotsStand
 last_open ss slots are = are.sealing
+
+-- ---- live sessions
+
+last_at : {X : Type 0} (passes : X → Bool) (xs : List X) (n : ℕ) (x : X) → slice_get xs n ≡ Some x → suc n ≡ length xs → passes x ≡ true → last_place passes xs ≡ Some n
+last_at passes [] n x at size is = absurd (none-some x at)
+last_at passes (y ∷ []) zero x at size is = let same : y ≡ x = cc at in ap (λ (b : Bool). later b None) (ap passes same ∙ is)
+last_at passes (y ∷ z ∷ xs) zero x at size is = absurd (omega (arith, size))
+last_at passes (y ∷ xs) (suc n) x at size is = let less : suc n ≡ length xs = omega (arith, size) in ap (λ (o : Option ℕ). later (passes y) o) (last_at passes xs n x at less is)
+
+-- each session without keys is open
+abbrev pub OpenWithoutKeys : List Session → Type 0
+OpenWithoutKeys ss = (n : ℕ) (s : Session) → slice_get ss n ≡ Some s → has_keys s ≡ false → s.is_open ≡ true
+
+last_is_open : (ss : List Session) (n : ℕ) (s : Session) (b : Bool) → has_keys s ≡ b → slice_get ss n ≡ Some s → suc n ≡ length ss → LastIsOpen ss → OpenWithoutKeys ss → s.is_open ≡ true
+unfolding newest_usable
+last_is_open ss n s true has at size last without = last n s (last_at has_keys ss n s at size has) at
+last_is_open ss n s false has at size last without = without n s at has
+
+there_at : {X : Type 0} (xs : List X) (n : ℕ) → n < length xs → (x : X) × (slice_get xs n ≡ Some x)
+there_at [] n below = absurd (omega (arith, below))
+there_at (x ∷ xs) zero below = (x, refl)
+there_at (x ∷ xs) (suc n) below = there_at xs n (omega (arith, below))
+
+newest_open : (ss : List Session) → 1 ≤ length ss → LastIsOpen ss → OpenWithoutKeys ss → OpenAt (slice_get ss) (newest ss)
+newest_open ss begun last without =
+    let there = there_at ss (newest ss) (omega (arith, begun)) in
+    record { session = there.0; here = there.1; is_open = last_is_open ss (newest ss) there.0 (has_keys there.0) refl there.1 (omega (arith, begun)) last without }
+
+usable_is_open : (p : Peer) (at kid n : ℕ) → LastIsOpen p.sessions → UsableAreOpen p at → with_kid kid (usable p.timers at p.sessions) ≡ Some n → OpenKeyedAt p.sessions n
+unfolding usable_with
+usable_is_open p at kid n last usables is = usable_open p at kid n last usables is
+
+-- the live session with a key id is open
+pub live_open : (p : Peer) (at kid n : ℕ) → IsOrderly p.sessions → LastIsOpen p.sessions → OpenWithoutKeys p.sessions → UsableAreOpen p at → live_with p.timers at p.sessions kid ≡ Some n →
+    OpenAt (slice_get p.sessions) n
+unfolding live_with
+live_open p at kid n orderly last without usables is =
+    found_by kid n (newest p.sessions) (kid_of (newest p.sessions) == kid) (with_kid kid (usable p.timers at p.sessions)) (OpenAt (slice_get p.sessions) n) is
+    (λ same. subst (OpenAt (slice_get p.sessions)) same (newest_open p.sessions orderly.begun last without))
+    (λ rest. let there = usable_is_open p at kid n last usables rest in record { session = there.keyed.session; here = there.keyed.here; is_open = there.is_open })

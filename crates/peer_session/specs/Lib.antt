@@ -1,3 +1,4 @@
 pub mod Standing
 pub mod Ready
+pub mod Client
 pub mod internal

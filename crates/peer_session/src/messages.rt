@@ -1,16 +1,16 @@
 //! Plain text of the other end that was not read: messages, and what an exchange needs.
 
-ghost use Rattle.std.specs.Prelude.{◌≡◌, List, Some, true, option_map, slice_get};
+ghost use Rattle.std.specs.Prelude.{◌≡◌, ◌≤◌, ◌^◌, List, Some, IfSome, IfNone, true, option_map, slice_get};
 ghost use Rattle.key_method2.specs.Views.{message_seen as km2_seen};
 ghost use Rattle.peer_table.specs.EngineAnswers.{prepared_message, whole_of};
-ghost use Rattle.peer_table.specs.Exchange.{after_message, cipher_ahead, has_message, message_read, most_unread, next_message, waiting_in, waiting_message};
+ghost use Rattle.peer_table.specs.Exchange.{after_message, all_unread, cipher_ahead, has_message, message_read, most_unread, next_message, waiting_in, waiting_message};
 ghost use Rattle.peer_table.specs.KeySessions.{Named, Session};
 ghost use Rattle.peer_table.specs.Outboxes.{message_seen};
 ghost use Rattle.peer_table.specs.Peer.{Peer, other};
 ghost use Rattle.peer_table.specs.Places.{changed_at};
 ghost use Rattle.key_method2.specs.Reading.{reading};
 ghost use Rattle.peer_session.specs.Standing.{GoesOn, PeerStands, count, since};
-ghost use Rattle.peer_session.specs.internal.OpenOnes.{nul_in, unread_among, unread_in, waiting_among, waits_in};
+ghost use Rattle.peer_session.specs.internal.OpenOnes.{nul_in, unread_among, unread_in, unread_sum, waiting_among, waits_in};
 
 use crate::numbers::OpenNumbers;
 use crate::session::PeerSession;
@@ -49,6 +49,33 @@ impl<W: Wrap + Drop> PeerSession<W> {
             [number, rest @ ..] => {
                 let here = self.unread_at(*number);
                 here.max(self.unread_among(rest))
+            }
+        }
+    }
+
+    /// The number of plain text bytes that all open key sessions together have not read; None where no `usize`
+    /// says it.
+    pub fn unread_in_all(&self) -> Option<usize>
+        ensures some { IfSome result (λ count. (p : Peer) → PeerStands W.wrapped self.now p → count ≡ all_unread p.sessions) }
+        ensures none { IfNone result ((p : Peer) → PeerStands W.wrapped self.now p → 2 ^ 64 ≤ all_unread p.sessions) }
+    {
+        let numbers = OpenNumbers::of(&self.slots);
+        self.unread_sum(numbers.as_slice())
+    }
+
+    // The number of them in the sessions of these numbers together.
+    fn unread_sum(&self, numbers: &[u64]) -> Option<usize>
+        ensures some { IfSome result (λ count. (p : Peer) → PeerStands W.wrapped self.now p → count ≡ unread_sum (slice_get p.sessions) numbers.now) }
+        ensures none { IfNone result ((p : Peer) → PeerStands W.wrapped self.now p → 2 ^ 64 ≤ unread_sum (slice_get p.sessions) numbers.now) }
+    {
+        match numbers {
+            [] => Some(0),
+            [number, rest @ ..] => {
+                let here = self.unread_at(*number);
+                match self.unread_sum(rest) {
+                    None => None,
+                    Some(behind) => here.checked_add(behind),
+                }
             }
         }
     }
@@ -190,7 +217,7 @@ impl<W: Wrap + Drop> PeerSession<W> {
     }
 
     // The key exchange message in the plain text of the session of this number, which has a name and no keys.
-    fn whole_message(&self, number: u64) -> Option<(Km2View<'_>, usize)>
+    pub(crate) fn whole_message(&self, number: u64) -> Option<(Km2View<'_>, usize)>
         ensures { (p : Peer) (s : Session) → PeerStands W.wrapped self.now p → slice_get p.sessions number ≡ Some s → s.stage ≡ Named →
             option_map (λ m. (km2_seen m.0, m.1)) result ≡ whole_of (reading (other p.role) s.plain) }
     {

@@ -98,14 +98,23 @@ pub(crate) fn came<S: ClientSession + Drop>(
     a_core_ahead_is_sound::<S>();
     match kind {
         Kind::Datagram { from, bytes } => {
-            datagram_came(core, alloc, *from, bytes, kind, draw, buffer, out)
+            datagram_came(
+                core,
+                alloc,
+                *from,
+                bytes.as_slice(),
+                kind,
+                draw,
+                buffer,
+                out,
+            )
         }
         Kind::EngineText { conn, .. } => told(engine_answered(core, alloc, draw, *conn, kind, out)),
         Kind::EnginePlain { conn, .. } => told(engine_answered(core, alloc, draw, *conn, kind, out)),
         Kind::EngineUp { conn, .. } => told(engine_answered(core, alloc, draw, *conn, kind, out)),
         Kind::EngineDown { conn } => told(engine_down(core, *conn, out)),
         Kind::DeviceIn { bytes } => {
-            core.device_came(bytes, out);
+            core.device_came(bytes.as_slice(), out);
             Ok(false)
         }
         Kind::DeviceReady => {
@@ -114,7 +123,7 @@ pub(crate) fn came<S: ClientSession + Drop>(
         }
         Kind::File { cid, answer } => told(file_came(core, alloc, draw, *cid, answer, out)),
         Kind::Line { bytes } => {
-            line_came(core, bytes, out);
+            line_came(core, bytes.as_slice(), out);
             Ok(false)
         }
         Kind::Tick => told(tick(core, out)),

@@ -98,13 +98,13 @@ pub(crate) fn take<S: ClientSession + Drop>(
 
 /// A server: its core, and the buffer in which datagrams are opened. Contracts see the core.
 #[derive(Drop)]
-pub struct Server<S> {
+pub struct Server<S: ClientSession + Drop> {
     alloc: Global,
     core: ServerCore<S>,
     buffer: Vec<u8>,
 }
 
-impl<S: ClientSession> Model for Server<S> {
+impl<S: ClientSession + Drop> Model for Server<S> {
     ghost use Rattle.std.specs.Prelude.{◌≡◌, ◌×◌, length};
     ghost use Rattle.server_state.specs.Core.{IsSound};
     ghost use Rattle.server_state.specs.declared.state.ServerCore.{ServerCore};

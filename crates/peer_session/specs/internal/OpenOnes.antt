@@ -1,6 +1,6 @@
 -- What the open key sessions of a client come to, number by number.
 use Rattle.std.specs.List.{list_any}
-use Rattle.std.specs.Prelude.{ℕ, ◌&&◌, max, Bool, false, List, [], ◌∷◌, ◌++◌, length, Option, Some, None, if◌then◌else◌}
+use Rattle.std.specs.Prelude.{ℕ, ◌+◌, ◌&&◌, max, Bool, false, List, [], ◌∷◌, ◌++◌, length, Option, Some, None, if◌then◌else◌}
 use Rattle.peer_table.specs.KeySessions.{Session}
 use Rattle.peer_table.specs.Exchange.{closing, has_message, is_nul, unread}
 use Rattle.peer_table.specs.Peer.{Doing}
@@ -29,6 +29,11 @@ waiting_among at (n ∷ numbers) = if waits_in (at n) then Some n else waiting_a
 abbrev pub unread_among : (ℕ → Option Session) → List ℕ → ℕ
 unread_among at [] = 0
 unread_among at (n ∷ numbers) = max (unread_in (at n)) (unread_among at numbers)
+
+-- how many unread bytes there are at these numbers together
+abbrev pub unread_sum : (ℕ → Option Session) → List ℕ → ℕ
+unread_sum at [] = 0
+unread_sum at (n ∷ numbers) = unread_in (at n) + unread_sum at numbers
 
 -- what closing the sessions of these numbers does to the outside
 abbrev pub closings_among : (ℕ → Option Session) → List ℕ → List Doing

@@ -1,8 +1,11 @@
-use Rattle.std.proofs.Common.{◌∙◌}
+use Rattle.std.proofs.Common.{◌∙◌, sym}
 use Rattle.peer_session.specs.Standing.{PeerStands}
-use Rattle.peer_session.proofs.Finished.{finished_is}
+use Rattle.peer_session.proofs.Finished.{finished_is, finished_keyed}
 use Rattle.peer_session.proofs.session.PeerSession.newest_is_finished.Goals as goal
 
-pub returns : goal.returns
+pub returns-clause-finished : goal.returns-clause-finished
 unfolding PeerStands
-returns g c = λ p stands. c.is_finished.ensures ∙ finished_is c.args.established p.sessions c.newest.result (c.newest.ensures.seen p.sessions stands.slots_stand)
+returns-clause-finished g c = λ p stands. c.is_finished.ensures ∙ finished_is c.args.established p.sessions c.newest.result (c.newest.ensures.seen p.sessions stands.slots_stand)
+
+pub returns-clause-keyed : goal.returns-clause-keyed
+returns-clause-keyed g c = λ is. sym c.newest.ensures.stage ∙ finished_keyed c.args.established c.newest.result (sym c.is_finished.ensures ∙ is)

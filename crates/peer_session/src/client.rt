@@ -1,0 +1,201 @@
+//! A client's session, as a core knows it.
+
+ghost use Rattle.std.specs.Prelude.{◌≡◌};
+
+use crate::laws::retired_sessions_stay_retired;
+use crate::session::PeerSession;
+use opcode_codec::ControlView;
+use packet_ids::Spent;
+use peer_table::{ClientSession, Message, Refused, SessionFault, Turn};
+use std::alloc::Global;
+use tls_crypt::{Opened, StaticKey, Wrapper};
+use vpn_base::{Addr, Cipher, Conn, Draw, Moment, NoMemory, Place, Policy, Role, Sid, Timers};
+use vpn_links::{Kind, Outbox};
+
+impl ClientSession for PeerSession<Wrapper> {
+    ghost use Rattle.peer_session.specs.Client.{ClientStands, IsReadyFor};
+    ghost use Rattle.peer_session.specs.Standing as standing;
+    ghost use Rattle.peer_session.specs.internal.Unread.{nothing_read_before};
+
+    ghost stands = { ClientStands };
+
+    ghost count = { standing.count };
+
+    ghost goes_on = { standing.GoesOn };
+
+    ghost since = { standing.since };
+
+    ghost is_ready = { IsReadyFor };
+
+    ghost may_exchange = { λ s. Unit {0} };
+
+    ghost ready_for_file = { λ s cid answer established effects bytes ready. tt };
+
+    ghost nothing_read_before = { nothing_read_before };
+
+    #[tactic(auto, unfolding(crate::specs::Client::ClientStands))]
+    fn begin(
+        alloc: Global,
+        role: Role,
+        key: &StaticKey,
+        own: Sid,
+        timers: Timers,
+        conn: Conn,
+        now: Moment,
+        to: Addr,
+        out: &mut Outbox,
+    ) -> Result<PeerSession<Wrapper>, NoMemory> {
+        retired_sessions_stay_retired::<Wrapper>();
+        PeerSession::begin(alloc, role, key, own, timers, conn, now, to, out)
+    }
+
+    #[tactic(auto, unfolding(crate::specs::Client::ClientStands))]
+    fn ready(&mut self, kind: &Kind, established: bool) -> Result<(usize, usize), NoMemory> {
+        let _ = established;
+        PeerSession::ready(self, kind)
+    }
+
+    #[tactic(auto, unfolding(crate::specs::Client::ClientStands))]
+    fn on_control(
+        &mut self,
+        opened: &Opened<'_>,
+        view: &ControlView<'_>,
+        to: Addr,
+        next_conn: Conn,
+        established: bool,
+        now: Moment,
+        out: &mut Outbox,
+    ) -> Result<Result<Turn, Refused>, NoMemory> {
+        retired_sessions_stay_retired::<Wrapper>();
+        PeerSession::on_control(self, opened, view, to, next_conn, established, now, out)
+    }
+
+    #[tactic(auto, unfolding(crate::specs::Client::ClientStands))]
+    fn on_engine(
+        &mut self,
+        kind: &Kind,
+        to: Addr,
+        now: Moment,
+        out: &mut Outbox,
+    ) -> Result<Turn, NoMemory> {
+        retired_sessions_stay_retired::<Wrapper>();
+        PeerSession::on_engine(self, kind, to, now, out)
+    }
+
+    #[tactic(auto, unfolding(crate::specs::Client::ClientStands))]
+    fn exchange(
+        &mut self,
+        policy: &Policy,
+        peer_id: u32,
+        draw: &Draw,
+        to: Addr,
+        now: Moment,
+        out: &mut Outbox,
+    ) -> Result<Turn, NoMemory> {
+        retired_sessions_stay_retired::<Wrapper>();
+        let _ = (to, now);
+        PeerSession::exchange(self, policy, peer_id, draw, out)
+    }
+
+    #[tactic(auto, unfolding(crate::specs::Client::ClientStands))]
+    fn next_message(&self) -> Option<Message<'_>> {
+        PeerSession::next_message(self)
+    }
+
+    #[tactic(auto, unfolding(crate::specs::Client::ClientStands))]
+    fn pass_message(&mut self) {
+        retired_sessions_stay_retired::<Wrapper>();
+        PeerSession::pass_message(self)
+    }
+
+    #[tactic(auto, unfolding(crate::specs::Client::ClientStands))]
+    fn on_tick(
+        &mut self,
+        next_conn: Conn,
+        established: bool,
+        idle: bool,
+        to: Addr,
+        now: Moment,
+        out: &mut Outbox,
+    ) -> Result<Turn, NoMemory> {
+        retired_sessions_stay_retired::<Wrapper>();
+        PeerSession::on_tick(self, next_conn, established, idle, to, now, out)
+    }
+
+    #[tactic(auto, unfolding(crate::specs::Client::ClientStands))]
+    fn seal_to(&mut self, inner: &[u8], to: Addr, out: &mut Outbox) -> Result<(), Spent> {
+        retired_sessions_stay_retired::<Wrapper>();
+        PeerSession::seal_to(self, inner, to, out)
+    }
+
+    #[tactic(auto, unfolding(crate::specs::Client::ClientStands))]
+    fn unseal(&mut self, datagram: &mut [u8], now: Moment) -> Result<usize, SessionFault> {
+        retired_sessions_stay_retired::<Wrapper>();
+        PeerSession::unseal(self, datagram, now)
+    }
+
+    #[tactic(auto, unfolding(crate::specs::Client::ClientStands))]
+    fn name(&self) -> Option<&[u8]> {
+        PeerSession::name(self)
+    }
+
+    #[tactic(auto, unfolding(crate::specs::Client::ClientStands))]
+    fn remote(&self) -> Option<Sid> {
+        PeerSession::remote(self)
+    }
+
+    #[tactic(auto, unfolding(crate::specs::Client::ClientStands))]
+    fn asks_push(&self) -> bool {
+        PeerSession::asks_push(self)
+    }
+
+    #[tactic(auto, unfolding(crate::specs::Client::ClientStands))]
+    fn cipher(&self) -> Option<Cipher> {
+        PeerSession::cipher(self)
+    }
+
+    #[tactic(auto, unfolding(crate::specs::Client::ClientStands))]
+    fn cipher_ahead(&self, policy: &Policy) -> Option<Cipher> {
+        PeerSession::cipher_ahead(self, policy)
+    }
+
+    #[tactic(auto, unfolding(crate::specs::Client::ClientStands))]
+    fn has_conn(&self, conn: Conn) -> bool {
+        PeerSession::has_conn(self, conn)
+    }
+
+    #[tactic(auto, unfolding(crate::specs::Client::ClientStands))]
+    fn first_conn(&self) -> Option<Conn> {
+        PeerSession::first_conn(self)
+    }
+
+    #[tactic(auto, unfolding(crate::specs::Client::ClientStands))]
+    fn place(&self, kid: u8) -> Option<Place> {
+        PeerSession::place(self, kid)
+    }
+
+    #[tactic(auto, unfolding(crate::specs::Client::ClientStands))]
+    fn unread(&self) -> usize {
+        PeerSession::unread(self)
+    }
+
+    #[tactic(auto, unfolding(crate::specs::Client::ClientStands))]
+    fn unread_in_all(&self) -> Option<usize> {
+        PeerSession::unread_in_all(self)
+    }
+
+    #[tactic(auto, unfolding(crate::specs::Client::ClientStands))]
+    fn data_session(&self, kid: u8, now: Moment) -> Option<u64> {
+        PeerSession::data_session(self, kid, now)
+    }
+
+    #[tactic(auto, unfolding(crate::specs::Client::ClientStands))]
+    fn control_session(&self, kid: u8, now: Moment) -> u64 {
+        PeerSession::control_session(self, kid, now)
+    }
+
+    #[tactic(auto, unfolding(crate::specs::Client::ClientStands))]
+    fn close_all(&self, out: &mut Outbox) -> Result<(), NoMemory> {
+        PeerSession::close_all(self, out)
+    }
+}
