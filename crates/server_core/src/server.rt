@@ -105,7 +105,7 @@ pub struct Server<S: ClientSession + Drop> {
 }
 
 impl<S: ClientSession + Drop> Model for Server<S> {
-    ghost use Rattle.std.specs.Prelude.{◌≡◌, ◌×◌, length};
+    ghost use Rattle.std.specs.Prelude.{◌≡◌, length};
     ghost use Rattle.server_state.specs.Core.{IsSound};
     ghost use Rattle.server_state.specs.declared.state.ServerCore.{ServerCore};
 
