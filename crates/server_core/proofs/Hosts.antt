@@ -13,11 +13,12 @@ use Rattle.vpn_links.specs.declared.events.Kind.{Kind}
 use Rattle.vpn_links.specs.declared.events.Kind.TheVariants.{DeviceIn, DeviceReady, EngineDown, EnginePlain, EngineText, EngineUp, File, Halt, Line, Tick}
 use Rattle.vpn_links.specs.declared.events.Kind.TheVariants as kinds
 use Rattle.opcode_codec.specs.ControlText.{ControlForm, control_of}
-use Rattle.opcode_codec.specs.Packet.{DataForm, PacketForm, Inner, Wrapped, packet_of}
+use Rattle.opcode_codec.specs.DataPacket.{DataForm}
+use Rattle.opcode_codec.specs.Packet.{PacketForm, Inner, Wrapped, packet_of}
 use Rattle.opcode_codec.specs.declared.opcodes.Opcode.{Opcode}
 use Rattle.tls_crypt.specs.Packets.{Packet}
 use Rattle.tls_crypt.specs.Unwrapping.{unwrapping}
-use Rattle.ip_packets.specs.Addresses.{source}
+use Rattle.ip_packets.specs.Inner.{source}
 use Rattle.inner_verdict.specs.declared.verdict.Verdict.{Verdict}
 use Rattle.inner_verdict.specs.declared.verdict.Verdict.TheVariants.{BadSource, Multicast, NoRoute, NotIp, ToClient, ToDevice, TooLong}
 use Rattle.packet_ids.specs.declared.sending.Spent.{Spent}

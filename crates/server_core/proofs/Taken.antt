@@ -36,7 +36,7 @@ module _ {S : Type 0} (means : S → Peer → Type 0) (before : List Action) (co
   told c h =
       let wires : map on_wire out.staged ≡ map (λ (s : Staged). on_wire s.datagram) c.staged = ap (map on_wire) h.outbox.1 ∙ wired c.staged in
       let all : out.effects ++ map on_wire out.staged ≡ (before ++ c.effects) ++ map (λ (s : Staged). on_wire s.datagram) c.staged =
-          ap (λ (es : List Action). es ++ map on_wire out.staged) h.outbox.0 ∙ ap (λ (ws : List Action). (before ++ c.effects) ++ ws) wires in
+      ap (λ (es : List Action). es ++ map on_wire out.staged) h.outbox.0 ∙ ap (λ (ws : List Action). (before ++ c.effects) ++ ws) wires in
       (moved.0 ∙ all ∙ append_assoc before c.effects (map (λ (s : Staged). on_wire s.datagram) c.staged), moved.1)
 
   module _ (t : Table) (event : Event) (goes : is_over t ≡ false) where
@@ -50,7 +50,7 @@ module _ {S : Type 0} (means : S → Peer → Type 0) (before : List Action) (co
     needed true needs h = answer_by true (λ _. needs) h
     needed false none h =
         let same : came true event.draw event.kind (course_begun t event) ≡ came false event.draw event.kind (course_begun t event) =
-            hosts_alone_lack event.draw event.kind (course_begun t event) (ap (λ (c : Course). list_any is_not_learned (outs c)) (step_is true t event goes) ∙ none) in
+        hosts_alone_lack event.draw event.kind (course_begun t event) (ap (λ (c : Course). list_any is_not_learned (outs c)) (step_is true t event goes) ∙ none) in
         answer_by false (λ is. absurd (false≢true is))
         (subst (CourseStands means before core out) (sym (step_is true t event goes) ∙ same ∙ step_is false t event goes) h)
 
