@@ -19,8 +19,8 @@ use Rattle.opcode_codec.specs.declared.opcodes.Opcode.{Opcode}
 use Rattle.tls_crypt.specs.Packets.{Packet}
 use Rattle.tls_crypt.specs.Unwrapping.{unwrapping}
 use Rattle.ip_packets.specs.Inner.{source}
-use Rattle.inner_verdict.specs.declared.verdict.Verdict.{Verdict}
-use Rattle.inner_verdict.specs.declared.verdict.Verdict.TheVariants.{BadSource, Multicast, NoRoute, NotIp, ToClient, ToDevice, TooLong}
+use Rattle.inner_verdict.specs.declared.Verdict.{Verdict}
+use Rattle.inner_verdict.specs.declared.Verdict.TheVariants.{BadSource, Multicast, NoRoute, NotIp, ToClient, ToDevice, TooLong}
 use Rattle.packet_ids.specs.declared.sending.Spent.{Spent}
 use Rattle.peer_table.specs.DataPackets as packets
 use Rattle.peer_table.specs.Peer.{Outcome, Peer}
