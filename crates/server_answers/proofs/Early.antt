@@ -93,11 +93,11 @@ none_told n (Some e) = refl
 
 none_ended : (n : ℕ) (cause : Cause) (c : Course) → NoneEarly c.effects → NoneEarly (ended n cause c).effects
 unfolding ended
-none_ended n cause c none = as (client_here c.table n)
+none_ended n cause c none = by_client (client_here c.table n)
   where
-    as : (o : Option Client) → NoneEarly (ended_as n cause c o).effects
-    as None = none
-    as (Some x) =
+    by_client : (o : Option Client) → NoneEarly (ended_as n cause c o).effects
+    by_client None = none
+    by_client (Some x) =
         none_append c.effects _ none
         (none_append (disconnect_line n x.established) _ (none_told n x.established) (none_done x.session.role (closings x.session.sessions)))
 
