@@ -1,11 +1,15 @@
 -- What is seen of a client at its place.
 use Rattle.std.proofs.Common.{◌≡◌, ℕ, Bool, true, false, List, slice_get, option_map, Option, Some, None, is_some, refl, sym, ap, subst, ◌∙◌}
 use Rattle.std.proofs.lemmas.Bool.{false≢true}
+use Rattle.vpn_base.specs.declared.names.Draw.{Draw}
 use Rattle.vpn_links.specs.declared.events.Kind.{Kind}
+use Rattle.vpn_links.specs.declared.events.Kind.TheVariants as kinds
 use Rattle.ccd_files.specs.declared.client_file.Ccd.{Ccd}
 use Rattle.client_table.specs.Tables.{entries_of}
-use Rattle.peer_table.specs.Peer.{Peer}
+use Rattle.peer_table.specs.declared.outcomes.Turn.{Turn}
+use Rattle.peer_table.specs.Peer.{Outcome, Peer}
 use Rattle.server_table.specs.Courses.{Course}
+use Rattle.server_table.specs.Engine.{answer_acted, engine_acted, text_acted}
 use Rattle.server_table.specs.Establishing.{ccd_in}
 use Rattle.server_table.specs.Lookups.{client_here}
 use Rattle.server_table.specs.Table.{Client, Established, Table}
@@ -16,6 +20,7 @@ use Rattle.server_state.specs.Places.{IsThere}
 use Rattle.server_establishing.specs.declared.asking.Prepared.{Prepared}
 use Rattle.server_establishing.specs.declared.asking.Prepared.TheVariants.{Again, New, Nothing}
 use Rattle.server_establishing.specs.Ahead.{IsMadeFor}
+use Rattle.server_answers.specs.Texts.{is_text}
 use Rattle.server_answers.specs.internal.Ahead.{IsAgain, IsMadeAs, IsReadied, NameAhead}
 use Rattle.server_answers.proofs.Keeping.{some_is}
 use Rattle.server_answers.proofs.Readied.{value_is}
@@ -74,3 +79,31 @@ readied_new kind c n x name as_is file (New ahead) none same named says made = r
 }
 readied_new kind c n x name as_is file (Again replies) none same named says made = absurd made
 readied_new kind c n x name as_is file Nothing none same named says made = absurd made
+
+-- ---- what the engine has
+
+pub acted_text : (draw : Draw) (n : ℕ) (x : Client) (c : Course) (kind : Kind) (o : Outcome Turn) → is_text kind ≡ true → answer_acted draw n x c kind o ≡ text_acted n x c o
+acted_text draw n x c (kinds.EngineText conn bytes) o is = refl
+acted_text draw n x c (kinds.EnginePlain conn bytes) o is = absurd (false≢true is)
+acted_text draw n x c (kinds.EngineUp conn name) o is = absurd (false≢true is)
+acted_text draw n x c (kinds.EngineDown conn) o is = absurd (false≢true is)
+acted_text draw n x c (kinds.Datagram from bytes) o is = absurd (false≢true is)
+acted_text draw n x c (kinds.DeviceIn bytes) o is = absurd (false≢true is)
+acted_text draw n x c kinds.DeviceReady o is = absurd (false≢true is)
+acted_text draw n x c (kinds.File cid answer) o is = absurd (false≢true is)
+acted_text draw n x c (kinds.Line bytes) o is = absurd (false≢true is)
+acted_text draw n x c kinds.Tick o is = absurd (false≢true is)
+acted_text draw n x c kinds.Halt o is = absurd (false≢true is)
+
+pub acted_plain : (draw : Draw) (n : ℕ) (x : Client) (c : Course) (kind : Kind) (o : Outcome Turn) → is_text kind ≡ false → answer_acted draw n x c kind o ≡ engine_acted draw n x c o
+acted_plain draw n x c (kinds.EngineText conn bytes) o is = absurd (false≢true (sym is))
+acted_plain draw n x c (kinds.EnginePlain conn bytes) o is = refl
+acted_plain draw n x c (kinds.EngineUp conn name) o is = refl
+acted_plain draw n x c (kinds.EngineDown conn) o is = refl
+acted_plain draw n x c (kinds.Datagram from bytes) o is = refl
+acted_plain draw n x c (kinds.DeviceIn bytes) o is = refl
+acted_plain draw n x c kinds.DeviceReady o is = refl
+acted_plain draw n x c (kinds.File cid answer) o is = refl
+acted_plain draw n x c (kinds.Line bytes) o is = refl
+acted_plain draw n x c kinds.Tick o is = refl
+acted_plain draw n x c kinds.Halt o is = refl
