@@ -25,7 +25,7 @@ use Rattle.ovpn_config.specs.declared.settings.Settings.{Settings}
 use Rattle.push_options.specs.Options.{options_of}
 use Rattle.push_options.specs.Parts.{reply_parts}
 use Rattle.peer_table.specs.EngineAnswers.{engine_came}
-use Rattle.peer_table.specs.Exchange.{after_message, first_conn, most_unread, next_message}
+use Rattle.peer_table.specs.Exchange.{after_message, cipher_of, exchanged, first_conn, most_unread, next_message}
 use Rattle.peer_table.specs.Outboxes.{actions_of}
 use Rattle.peer_table.specs.Peer.{Closes, Doing, Opens, Outcome, Puts, Writes}
 use Rattle.peer_table.specs.Time.{closings}
@@ -214,7 +214,10 @@ none_acted : {A : Type 0} (n : ℕ) (x : Client) (o : Outcome A) (c : Course) �
 none_acted n x o c none = none_append c.effects _ none (none_done o.peer.role o.doings)
 
 none_with : (draw : Draw) (n : ℕ) (x : Client) (c : Course) (file : FileState) → KeepsNone c (exchange.exchange_with draw n x c file)
-none_with draw n x c (Known file) none = none_made n _ (none_turned n _ _ (none_acted n x _ c none))
+none_with draw n x c (Known file) none =
+    let o = exchanged (exchange.policy_with c.table.settings.ciphers (cipher_of x.session)) x.peer_id draw x.session in
+    let then = acted n x.address o c in
+    none_made n (turned n o.answer then) (none_turned n o.answer then (none_acted n x o c none))
 none_with draw n x c (Awaited name) none = none
 none_with draw n x c Unasked none = none
 
@@ -290,7 +293,8 @@ none_answer_for draw kind n c None none = none
 none_answer_for draw kind n c (Some x) none = none_answer draw n x c kind (engine_came kind c.table.moment x.session) none
 
 no_refusal : (c : Course) → NoneEarly c.effects → is_refusal (outs c) ≡ false
-no_refusal c none = not_refused _ (none_append c.effects _ none (none_wired c.staged))
+no_refusal c none =
+    not_refused (outs c) (none_append c.effects (map (λ (s : Staged). on_wire s.datagram) c.staged) none (none_wired c.staged))
 
 -- an answer that is for a client is no refusal
 pub answering_is_no_refusal : (draw : Draw) (conn : Conn) (kind : Kind) (n : ℕ) (c : Course) (o : Option ℕ) → o ≡ Some n → c.effects ≡ []

@@ -9,3 +9,4 @@ pub mod Kept
 pub mod Looked
 pub mod Going
 pub mod Early
+pub mod Filed
