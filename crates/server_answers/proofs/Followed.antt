@@ -32,8 +32,16 @@ TakesNone means core old next new n = (before : List Action) (c : Course) → Co
     → CourseStands means before next new (messages_taken n c)
 
 -- who is at a place is here
-pub not_gone : {S : Type 0} (means : S → Peer → Type 0) (core : ServerCore S) (t : Table) (n i : ℕ) → IsThere means core t n i → client_here t n ≡ None → ⊥
+not_gone : {S : Type 0} (means : S → Peer → Type 0) (core : ServerCore S) (t : Table) (n i : ℕ) → IsThere means core t n i → client_here t n ≡ None → ⊥
 not_gone means core t n i there none = false≢true (ap is_some (sym none ∙ there.client_there))
+
+module _ {S : Type 0} (means : S → Peer → Type 0) (before : List Action) (core next : ServerCore S) (new : Contents) (n i : ℕ) (c : Course) where
+  -- so its messages are not those of nobody
+  pub not_nobody : IsThere means core c.table n i → client_here c.table n ≡ None → CourseStands means before next new (messages_taken n c)
+  not_nobody there none = absurd (not_gone means core c.table n i there none)
+
+  pub not_nobody_made : IsThere means core c.table n i → client_here c.table n ≡ None → CourseStands means before next new (exchange_made n c)
+  not_nobody_made there none = absurd (not_gone means core c.table n i there none)
 
 module _ {S : Type 0} (means : S → Peer → Type 0) (before : List Action) (core : ServerCore S) (out : Contents) (n : ℕ) (c : Course) where
   pub nobody_left : client_here c.table n ≡ None → CourseStands means before core out c → CourseStands means before core out (messages_taken n c)

@@ -1,5 +1,5 @@
 -- What follows a message or a key exchange leaves the session of its client as it is, or the client is not here any more.
-use Rattle.std.proofs.Common.{◌≡◌, ℕ, zero, suc, ◌&&◌, Bool, true, false, cond, List, [], ◌∷◌, slice_get, Option, Some, None, is_some, refl, sym, ap, ◌∙◌}
+use Rattle.std.proofs.Common.{◌≡◌, ℕ, zero, suc, Bool, true, false, cond, List, [], ◌∷◌, slice_get, Option, Some, None, is_some, refl, sym, ap, ◌∙◌}
 use Rattle.std.specs.Prelude.{unwrap_or}
 use Rattle.std.specs.Str.{bytes_eq}
 use Rattle.std.proofs.lemmas.Bool.{false≢true}
@@ -132,7 +132,7 @@ established_keeps n conn c = establishing_keeps n conn c (client_here c.table n)
 
 requested_as_keeps : (n : ℕ) (conn : Conn) (x : Client) (c : Course) (e : Option Established) → KeepsSession n c (requested_as n conn x c e)
 requested_as_keeps n conn x c None = established_keeps n conn c
-requested_as_keeps n conn x c (Some e) y is = record { client = y; there = is; session = refl }
+requested_as_keeps n conn x c (Some e) = λ y is. record { client = y; there = is; session = refl }
 
 -- a request
 pub requested_keeps : (n : ℕ) (conn : Conn) (c : Course) (o : Option Client) → KeepsSession n c (requested n conn c o)
@@ -141,7 +141,7 @@ requested_keeps n conn c (Some x) = requested_as_keeps n conn x c x.established
 
 other_keeps : (n : ℕ) (conn : Conn) (c : Course) (b : Bool) → KeepsSession n c (other_message n conn c b)
 other_keeps n conn c true = requested_keeps n conn c (client_here c.table n)
-other_keeps n conn c false y is = record { client = y; there = is; session = refl }
+other_keeps n conn c false = λ y is. record { client = y; there = is; session = refl }
 
 -- any message
 pub came_keeps : (n : ℕ) (c : Course) (conn : Conn) (bytes : List ℕ) → KeepsSession n c (message_came n c conn bytes)

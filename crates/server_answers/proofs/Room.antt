@@ -37,14 +37,8 @@ one_fits a b left some le = omega (arith, some, le)
 request_fits : (a b c e left : ℕ) → 13 ≤ left → b ≡ c + e → a ≤ c → 1 + e + (a + (left - 13)) ≤ b + left
 request_fits a b c e left many is le = omega (arith, many, is, le)
 
-first_fits : (b c e left : ℕ) → 13 ≤ left → b ≡ c + e → 1 + e ≤ b + left
-first_fits b c e left many is = omega (arith, many, is)
-
 bytes_fit : (a b c d : ℕ) → b ≡ c + d → a ≤ c → d + a ≤ b
 bytes_fit a b c d is le = omega (arith, is, le)
-
-first_bytes : (b c d : ℕ) → b ≡ c + d → d ≤ b
-first_bytes b c d is = omega (arith, is)
 
 -- ---- outboxes
 
@@ -61,8 +55,7 @@ uses_both old mid new e b f d m n first last effects bytes = record {
 }
 
 module _ (p : Prepared) (left : ℕ) (old mid : Contents) where
-  -- ---- a message that is no request
-
+  -- a message that is no request
   module _ (some : 1 ≤ left) (uses : Uses old mid 1 0) where
     effects_one : 1 + messages_effects p (left - 1) ≤ messages_effects p left
     effects_one =
@@ -71,72 +64,38 @@ module _ (p : Prepared) (left : ℕ) (old mid : Contents) where
     bytes_one : 0 + messages_bytes p (left - 1) ≤ messages_bytes p left
     bytes_one = let less = product_less (prepared_bytes p) left in omega (arith, less)
 
-    pub room_one : HasRoom old (messages_effects p left) (messages_bytes p left) → HasRoom mid (messages_effects p (left - 1)) (messages_bytes p (left - 1))
-    room_one room =
-        room_left old mid 1 0 (messages_effects p (left - 1)) (messages_bytes p (left - 1)) (messages_effects p left) (messages_bytes p left) room uses effects_one bytes_one
-
     pub uses_one : (new : Contents) → Uses mid new (messages_effects p (left - 1)) (messages_bytes p (left - 1)) → Uses old new (messages_effects p left) (messages_bytes p left)
     uses_one new rest =
         uses_both old mid new 1 0 (messages_effects p (left - 1)) (messages_bytes p (left - 1)) (messages_effects p left) (messages_bytes p left) uses rest effects_one bytes_one
 
-  -- ---- a request
+  -- a request
+  module _ (many : 13 ≤ left) (uses : Uses old mid 1 0) (q : Prepared) (less : (prepared_effects q ≤ prepared_effects p) × (prepared_bytes q ≤ prepared_bytes p))
+      (next : Contents) (answered : Uses mid next (prepared_effects p) (prepared_bytes p)) where
+    effects_request : 1 + prepared_effects p + messages_effects q (left - 13) ≤ messages_effects p left
+    effects_request =
+        request_fits (prepared_effects q * ((left - 13) / 13)) (prepared_effects p * (left / 13)) (prepared_effects p * ((left - 13) / 13)) (prepared_effects p) left many
+        (product_is (prepared_effects p) left many) (products (prepared_effects p) (prepared_effects q) ((left - 13) / 13) less.0)
 
-  module _ (many : 13 ≤ left) (uses : Uses old mid 1 0) where
-    pub room_first : HasRoom old (messages_effects p left) (messages_bytes p left) → HasRoom mid (prepared_effects p) (prepared_bytes p)
-    room_first room =
-        room_left old mid 1 0 (prepared_effects p) (prepared_bytes p) (messages_effects p left) (messages_bytes p left) room uses
-        (first_fits (prepared_effects p * (left / 13)) (prepared_effects p * ((left - 13) / 13)) (prepared_effects p) left many (product_is (prepared_effects p) left many))
-        (first_bytes (prepared_bytes p * (left / 13)) (prepared_bytes p * ((left - 13) / 13)) (prepared_bytes p) (product_is (prepared_bytes p) left many))
+    bytes_request : prepared_bytes p + messages_bytes q (left - 13) ≤ messages_bytes p left
+    bytes_request =
+        bytes_fit (prepared_bytes q * ((left - 13) / 13)) (prepared_bytes p * (left / 13)) (prepared_bytes p * ((left - 13) / 13)) (prepared_bytes p)
+        (product_is (prepared_bytes p) left many) (products (prepared_bytes p) (prepared_bytes q) ((left - 13) / 13) less.1)
 
-    module _ (q : Prepared) (less : (prepared_effects q ≤ prepared_effects p) × (prepared_bytes q ≤ prepared_bytes p)) (next : Contents)
-        (answered : Uses mid next (prepared_effects p) (prepared_bytes p)) where
-      effects_request : 1 + prepared_effects p + messages_effects q (left - 13) ≤ messages_effects p left
-      effects_request =
-          request_fits (prepared_effects q * ((left - 13) / 13)) (prepared_effects p * (left / 13)) (prepared_effects p * ((left - 13) / 13)) (prepared_effects p) left many
-          (product_is (prepared_effects p) left many) (products (prepared_effects p) (prepared_effects q) ((left - 13) / 13) less.0)
+    both_used : Uses old next (1 + prepared_effects p) (prepared_bytes p)
+    both_used =
+        uses_both old mid next 1 0 (prepared_effects p) (prepared_bytes p) (1 + prepared_effects p) (prepared_bytes p) uses answered (as_many (1 + prepared_effects p))
+        (zero_more (prepared_bytes p))
+      where
+        zero_more : (n : ℕ) → 0 + n ≤ n
+        zero_more n = omega arith
 
-      bytes_request : prepared_bytes p + messages_bytes q (left - 13) ≤ messages_bytes p left
-      bytes_request =
-          bytes_fit (prepared_bytes q * ((left - 13) / 13)) (prepared_bytes p * (left / 13)) (prepared_bytes p * ((left - 13) / 13)) (prepared_bytes p)
-          (product_is (prepared_bytes p) left many) (products (prepared_bytes p) (prepared_bytes q) ((left - 13) / 13) less.1)
+    pub room_request : HasRoom old (messages_effects p left) (messages_bytes p left) → HasRoom next (messages_effects q (left - 13)) (messages_bytes q (left - 13))
+    room_request room =
+        room_left old next (1 + prepared_effects p) (prepared_bytes p) (messages_effects q (left - 13)) (messages_bytes q (left - 13)) (messages_effects p left)
+        (messages_bytes p left) room both_used effects_request bytes_request
 
-      both_used : Uses old next (1 + prepared_effects p) (prepared_bytes p)
-      both_used =
-          uses_both old mid next 1 0 (prepared_effects p) (prepared_bytes p) (1 + prepared_effects p) (prepared_bytes p) uses answered (as_many (1 + prepared_effects p))
-          (zero_more (prepared_bytes p))
-        where
-          zero_more : (n : ℕ) → 0 + n ≤ n
-          zero_more n = omega arith
-
-      pub room_request : HasRoom old (messages_effects p left) (messages_bytes p left) → HasRoom next (messages_effects q (left - 13)) (messages_bytes q (left - 13))
-      room_request room =
-          room_left old next (1 + prepared_effects p) (prepared_bytes p) (messages_effects q (left - 13)) (messages_bytes q (left - 13)) (messages_effects p left)
-          (messages_bytes p left) room both_used effects_request bytes_request
-
-      pub uses_request : (new : Contents) → Uses next new (messages_effects q (left - 13)) (messages_bytes q (left - 13))
-          → Uses old new (messages_effects p left) (messages_bytes p left)
-      uses_request new rest =
-          uses_both old next new (1 + prepared_effects p) (prepared_bytes p) (messages_effects q (left - 13)) (messages_bytes q (left - 13)) (messages_effects p left)
-          (messages_bytes p left) both_used rest effects_request bytes_request
-
--- ---- a key exchange, and the messages behind it
-
-module _ (p q : Prepared) (left : ℕ) (old mid : Contents) (less : (prepared_effects q ≤ prepared_effects p) × (prepared_bytes q ≤ prepared_bytes p))
-    (uses : Uses old mid (prepared_effects p) (prepared_bytes p)) where
-  effects_made : prepared_effects p + messages_effects q left ≤ prepared_effects p + messages_effects p left
-  effects_made = let most = products (prepared_effects p) (prepared_effects q) (left / 13) less.0 in omega (arith, most)
-
-  bytes_made : prepared_bytes p + messages_bytes q left ≤ prepared_bytes p + messages_bytes p left
-  bytes_made = let most = products (prepared_bytes p) (prepared_bytes q) (left / 13) less.1 in omega (arith, most)
-
-  pub room_made : HasRoom old (prepared_effects p + messages_effects p left) (prepared_bytes p + messages_bytes p left)
-      → HasRoom mid (messages_effects q left) (messages_bytes q left)
-  room_made room =
-      room_left old mid (prepared_effects p) (prepared_bytes p) (messages_effects q left) (messages_bytes q left) (prepared_effects p + messages_effects p left)
-      (prepared_bytes p + messages_bytes p left) room uses effects_made bytes_made
-
-  pub uses_made : (new : Contents) → Uses mid new (messages_effects q left) (messages_bytes q left)
-      → Uses old new (prepared_effects p + messages_effects p left) (prepared_bytes p + messages_bytes p left)
-  uses_made new rest =
-      uses_both old mid new (prepared_effects p) (prepared_bytes p) (messages_effects q left) (messages_bytes q left) (prepared_effects p + messages_effects p left)
-      (prepared_bytes p + messages_bytes p left) uses rest effects_made bytes_made
+    pub uses_request : (new : Contents) → Uses next new (messages_effects q (left - 13)) (messages_bytes q (left - 13))
+        → Uses old new (messages_effects p left) (messages_bytes p left)
+    uses_request new rest =
+        uses_both old next new (1 + prepared_effects p) (prepared_bytes p) (messages_effects q (left - 13)) (messages_bytes q (left - 13)) (messages_effects p left)
+        (messages_bytes p left) both_used rest effects_request bytes_request

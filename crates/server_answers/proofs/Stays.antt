@@ -1,24 +1,19 @@
 -- What is prepared for a client stays so where it passes a message.
 use Rattle.std.proofs.Common.{◌≡◌, ℕ, List, Option, Some, None, refl, sym, ap, subst, ◌∙◌}
 use Rattle.ccd_files.specs.declared.client_file.Ccd.{Ccd}
-use Rattle.client_table.specs.declared.table.ClientTable.{ClientTable}
 use Rattle.peer_table.specs.Exchange.{after_message, after_message_in, waiting_in}
 use Rattle.peer_table.specs.Peer.{Peer}
 use Rattle.peer_table.specs.Places.{changed_at}
 use Rattle.server_table.specs.Courses.{Course}
 use Rattle.server_table.specs.Lookups.{client_here}
 use Rattle.server_table.specs.Table.{Client, Table}
-use Rattle.server_state.specs.declared.client.ClientState.{ClientState}
-use Rattle.server_state.specs.declared.state.ServerCore.{ServerCore}
 use Rattle.server_engine.specs.Messages.{passed}
 use Rattle.server_establishing.specs.declared.ahead.Ahead.{Ahead}
 use Rattle.server_establishing.specs.declared.asking.Prepared.{Prepared}
 use Rattle.server_establishing.specs.declared.asking.Prepared.TheVariants.{Again, New, Nothing}
 use Rattle.server_establishing.specs.Ahead.{IsEstablishedWith, IsMadeFor, KeepsPlace}
-use Rattle.server_establishing.specs.Prepared.{IsKept, IsPrepared}
+use Rattle.server_establishing.specs.Prepared.{IsPrepared}
 use Rattle.server_answers.proofs.Taken.{behind_it}
-
--- ---- the client
 
 name_in : (o : Option ℕ) (p : Peer) → (after_message_in o p).name ≡ p.name
 name_in None p = refl
@@ -51,14 +46,3 @@ prepared_behind stays n c then x (Again replies) there is of =
     subst (λ (t : Table). IsEstablishedWith t (behind_it x) (Some replies)) (sym is)
     (record { when = of.when; established = of.established; again = of.again })
 prepared_behind stays n c then x Nothing there is of = absurd of
-
--- ---- the core
-
-other_clients : {S : Type 0} (core : ServerCore S) (ct : ClientTable (ClientState S)) (p : Prepared) → IsKept core p → IsKept (record core { clients = ct }) p
-other_clients core ct (New ahead) kept = record { held = kept.held; rows = kept.rows }
-other_clients core ct (Again replies) kept = kept
-other_clients core ct Nothing kept = kept
-
--- what belongs to it is there still
-pub kept_behind : {S : Type 0} (core next : ServerCore S) (p : Prepared) → next ≡ record core { clients = next.clients } → IsKept core p → IsKept next p
-kept_behind core next p only kept = subst (λ core. IsKept core p) (sym only) (other_clients core next.clients p kept)

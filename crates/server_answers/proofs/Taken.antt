@@ -1,5 +1,5 @@
 -- Every message that waits at a client is taken, one after another.
-use Rattle.std.proofs.Common.{◌≡◌, ◌≤◌, ◌-◌, ◌+◌, ℕ, zero, suc, true, false, List, [], ◌∷◌, length, Option, Some, None, is_some, refl, sym, ap, subst, ◌∙◌, arith}
+use Rattle.std.proofs.Common.{◌≡◌, ◌≤◌, ◌-◌, ◌+◌, ℕ, zero, suc, true, false, List, [], ◌∷◌, length, Option, Some, None, refl, sym, ap, subst, ◌∙◌, arith}
 use Rattle.std.specs.Str.{bytes_eq}
 use Rattle.std.proofs.lemmas.Bool.{false≢true}
 use Rattle.std.proofs.lemmas.Slice.Eq.{bytes_eq-Decides}
@@ -34,10 +34,6 @@ Fits k n c = (x : Client) → client_here c.table n ≡ Some x → all_unread x.
 -- the same of one that is here
 pub fits_here : (k n : ℕ) (c : Course) (x : Client) → client_here c.table n ≡ Some x → all_unread x.session.sessions ≤ k → Fits k n c
 fits_here k n c x there le y is = subst (λ (x : Client). all_unread x.session.sessions ≤ k) (some_is x y (sym there ∙ is)) le
-
--- where nobody is here
-pub fits_none : (k n : ℕ) (c : Course) → client_here c.table n ≡ None → Fits k n c
-fits_none k n c none y is = absurd (false≢true (ap is_some (sym none ∙ is)))
 
 less_left : (a b k l : ℕ) → a + l + 1 ≤ b → b ≤ suc k → a ≤ k
 less_left a b k l less le = omega (arith, less, le)

@@ -46,6 +46,7 @@ pub fn take_messages<S: ClientSession + Drop>(
     ensures mark_stays { core.new.mark ≡ core.old.mark }
 {
     server_state::places_tell_of_clients::<S>();
+    server_establishing::what_is_made_stays();
     let cid = core.turn;
     let Some(i) = core.clients.place(cid) else {
         return prepared;
