@@ -1,7 +1,6 @@
 -- What a client has whose file comes.
-use Rattle.std.proofs.Common.{◌≡◌, ◌+◌, ◌≤◌, ℕ, Bool, true, false, List, Option, Some, None, is_some, refl, sym, ap, subst, ◌∙◌, arith}
+use Rattle.std.proofs.Common.{◌≡◌, ◌+◌, ◌≤◌, ℕ, Bool, List, Some, None, is_some, refl, sym, ap, subst, ◌∙◌, arith}
 use Rattle.vpn_base.specs.declared.names.Cid.{Cid}
-use Rattle.vpn_base.specs.declared.names.Draw.{Draw}
 use Rattle.vpn_links.specs.Actions.{Contents, Holds}
 use Rattle.vpn_links.specs.declared.events.FileAnswer.{FileAnswer}
 use Rattle.vpn_links.specs.declared.events.Kind.{Kind}
@@ -10,8 +9,7 @@ use Rattle.ccd_files.specs.declared.client_file.Ccd.{Ccd}
 use Rattle.peer_table.specs.Exchange.{all_unread}
 use Rattle.peer_table.specs.Peer.{Peer}
 use Rattle.server_table.specs.Courses.{Course}
-use Rattle.server_table.specs.Engine.{file_is, unread_judged}
-use Rattle.server_table.specs.Exchange.{exchange}
+use Rattle.server_table.specs.Engine.{file_is}
 use Rattle.server_table.specs.Lookups.{client_here}
 use Rattle.server_table.specs.Table.{Client, Known}
 use Rattle.server_state.specs.declared.state.ServerCore.{ServerCore}

@@ -1,5 +1,5 @@
 -- Names as they are kept, byte by byte.
-use Rattle.std.proofs.Common.{◌≡◌, ◌<◌, ◌+◌, ℕ, zero, suc, List, [], ◌∷◌, ◌++◌, map, take, length, refl, ap, subst, sym, ◌∙◌, arith, if◌then◌else◌, slice_index_or}
+use Rattle.std.proofs.Common.{◌≡◌, ◌<◌, ◌+◌, ℕ, zero, suc, List, [], ◌∷◌, ◌++◌, map, take, length, refl, ap, arith, if◌then◌else◌, slice_index_or}
 use Rattle.vpn_base.specs.FileName.{is_name_byte}
 use Rattle.peer_table.specs.EngineAnswers.{kept_name}
 

@@ -1,5 +1,5 @@
 -- What is seen of a client at its place.
-use Rattle.std.proofs.Common.{◌≡◌, ℕ, Bool, true, false, List, slice_get, option_map, Option, Some, None, is_some, refl, sym, ap, subst, ◌∙◌}
+use Rattle.std.proofs.Common.{◌≡◌, ℕ, true, false, List, slice_get, option_map, Option, Some, None, is_some, refl, sym, ap, subst, ◌∙◌}
 use Rattle.std.proofs.lemmas.Bool.{false≢true}
 use Rattle.vpn_base.specs.declared.names.Draw.{Draw}
 use Rattle.vpn_links.specs.declared.events.Kind.{Kind}

@@ -216,11 +216,7 @@ fn name_at<S: ClientSession>(
 }
 
 // A copy of the file of the client at this place.
-fn file_at<S: ClientSession>(
-    core: &ServerCore<S>,
-    alloc: Global,
-    i: usize,
-) -> Result<Ccd, NoMemory>
+fn file_at<S: ClientSession>(core: &ServerCore<S>, alloc: Global, i: usize) -> Result<Ccd, NoMemory>
     requires at { IsTurnAt core.now i }
     ensures { IfOk result (λ file. (t : Table) (x : Client) → CoreStands S.stands core.now t → client_here t core.now.turn.0 ≡ Some x →
         ccd_in x.file ≡ file) }
@@ -238,6 +234,7 @@ pub(crate) fn is_established<S: ClientSession>(core: &ServerCore<S>, i: usize) -
     core.clients.look_at(i).established.is_some()
 }
 
+// Whether the name of a client is known.
 fn is_known<S: ClientSession>(session: &S) -> bool
     ensures { (p : Peer) → S.stands session.now p → result ≡ is_some p.name }
 {

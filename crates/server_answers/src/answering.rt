@@ -132,6 +132,7 @@ fn plain_answered<S: ClientSession + Drop>(
     plain_ready(core, alloc, draw, i, kind, room, out)
 }
 
+// Whether the engine has text for the other end.
 fn is_text(kind: &Kind) -> bool
     ensures { result ≡ is_text kind.now }
 {

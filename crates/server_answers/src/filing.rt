@@ -1,7 +1,6 @@
 //! Answers for clients' files.
 
 ghost use Rattle.std.specs.Prelude.{◌≡◌, ◌≤◌, ◌-◌, ◌^◌, [], Bool, List, ℕ, None, Option, Some, false, OnOk, OnErr, MatchResult};
-
 ghost use Rattle.vpn_links.specs.Actions.{Action, Holds};
 ghost use Rattle.peer_table.specs.Outboxes.{HasRoom};
 ghost use Rattle.server_table.specs.Courses.{Course, outs};
@@ -27,6 +26,7 @@ use std::alloc::Global;
 use vpn_base::{Cid, Draw, NoMemory};
 use vpn_links::{FileAnswer, Kind, Note, Outbox};
 
+// Whether a file is waited for.
 fn awaits(file: &ClientFile) -> bool
     ensures { (name : Option (List ℕ)) (s : FileState) → FileStands name file.now s → result ≡ awaits s }
 {

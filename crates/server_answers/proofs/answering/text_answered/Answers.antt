@@ -1,4 +1,4 @@
-use Rattle.std.proofs.Common.{sym, ap, subst, ◌∙◌}
+use Rattle.std.proofs.Common.{ap, subst, ◌∙◌}
 use Rattle.vpn_base.specs.declared.names.Cid.{Cid}
 use Rattle.peer_table.specs.EngineAnswers.{engine_came}
 use Rattle.server_table.specs.Engine.{text_acted}

@@ -1,5 +1,4 @@
-use Rattle.std.proofs.Common.{None, refl, sym, ap, subst, ◌∙◌}
-use Rattle.server_table.specs.Engine as definitions
+use Rattle.std.proofs.Common.{None, sym, subst, ◌∙◌}
 use Rattle.server_state.specs.Core.{CourseStands}
 use Rattle.server_answers.proofs.Early.{filing_is_no_refusal, not_waited_for}
 use Rattle.server_answers.proofs.Readied.{ahead_turned, both_err, either, on_err, on_ok, outbox_same, stays_beside, turn_begun}

@@ -1,4 +1,4 @@
-use Rattle.std.proofs.Common.{◌≤◌, sym, ap, subst, ◌∙◌}
+use Rattle.std.proofs.Common.{sym, subst, ◌∙◌}
 use Rattle.vpn_base.specs.declared.names.Cid.{Cid}
 use Rattle.server_table.specs.Engine.{file_is}
 use Rattle.server_table.specs.Table.{Known}
