@@ -1,5 +1,5 @@
 -- What is taken ahead leaves a core as it is.
-use Rattle.std.proofs.Common.{◌≡◌, ℕ, zero, suc, ◌+◌, ◌-◌, ◌^◌, ◌<◌, ◌≤◌, Bool, true, false, List, [], ◌∷◌, ◌++◌, length, map, slice_get, option_map, Option, Some, None, is_some, refl, sym, ap, subst, ◌∙◌, arith}
+use Rattle.std.proofs.Common.{◌≡◌, ℕ, zero, suc, ◌+◌, ◌-◌, ◌^◌, ◌<◌, ◌≤◌, Bool, true, false, List, [], ◌∷◌, length, map, slice_get, option_map, Option, Some, None, is_some, refl, sym, ap, subst, ◌∙◌, arith}
 use Rattle.std.specs.Prelude.{unwrap_or, IfOk, MatchResult, OnErr, OnOk, Result, Ok, Err}
 use Rattle.std.specs.List.{AllByRecursion}
 use Rattle.std.proofs.lemmas.Bool.{false≢true}
@@ -22,7 +22,7 @@ use Rattle.server_state.specs.declared.client.ClientState.{ClientState}
 use Rattle.server_state.specs.declared.state.ServerCore.{ServerCore}
 use Rattle.server_state.specs.Core.{AreInTurn, CoreStands, CourseStands, FileStands, GoesOn, IsSoundAhead, NoneIsLater, StateStands, StaysTold}
 use Rattle.server_state.specs.Places.{IsChangedAt, IsThere}
-use Rattle.server_engine.specs.Calls.{IsNamedAt, IsReadyAt, MayExchangeAt, MayExchangeNow}
+use Rattle.server_engine.specs.Calls.{IsNamedAt, IsReadyAt, MayExchangeNow}
 use Rattle.server_answers.specs.internal.Ahead.{IsTurnAt, StaysSame}
 
 -- ---- lists
