@@ -147,11 +147,11 @@ none_all_ticked (suc most) n c none = none_all_ticked most (suc n) (client_ticke
 
 none_lines : (n : ℕ) (clients : List Client) → NoneEarly (count_lines n clients)
 none_lines n [] = refl
-none_lines n (x ∷ clients) = by_counted (is_counted x)
+none_lines n (x ∷ clients) = by_counted (is_counted x) (none_lines (suc n) clients)
   where
-    by_counted : (is : Bool) → NoneEarly (count_line_if n x (count_lines (suc n) clients) is)
-    by_counted true = none_lines (suc n) clients
-    by_counted false = none_lines (suc n) clients
+    by_counted : (is : Bool) → NoneEarly (count_lines (suc n) clients) → NoneEarly (count_line_if n x (count_lines (suc n) clients) is)
+    by_counted true none = none
+    by_counted false none = none
 
 pub time_is_no_refusal : (c : Course) → c.effects ≡ [] → is_refusal (outs (tick c)) ≡ false
 unfolding tick
