@@ -181,7 +181,7 @@ module _ {S : Type 0} (means : S → Peer → Type 0) (goes_on : S → Type 0) (
         };
     ahead = λ h.
         subst (λ (k : ServerCore S). IsSoundAhead goes_on count since k) (sym only)
-        (record { sessions = h.sessions; most = h.most; admitted = h.admitted; connections = h.connections; timers = h.timers; no_counts = h.no_counts });
+        (record { sessions = h.sessions; most = h.most; admitted = h.admitted; connections = h.connections; timers = h.timers; no_counts = h.no_counts; late = h.late });
     told = λ moment none. subst (λ (k : ServerCore S). NoneIsLater since moment k) (sym only) none;
     events = ap (λ (k : ServerCore S). k.events) only;
     turn = ap (λ (k : ServerCore S). k.turn) only;
@@ -248,7 +248,7 @@ module _ {S : Type 0} (means : S → Peer → Type 0) (core : ServerCore S) (tur
 
   pub ahead_turned : (goes_on : S → Type 0) (count since : S → ℕ) → IsSoundAhead goes_on count since core → IsSoundAhead goes_on count since (record core { turn = turn })
   ahead_turned goes_on count since h =
-      record { sessions = h.sessions; most = h.most; admitted = h.admitted; connections = h.connections; timers = h.timers; no_counts = h.no_counts }
+      record { sessions = h.sessions; most = h.most; admitted = h.admitted; connections = h.connections; timers = h.timers; no_counts = h.no_counts; late = h.late }
 
 -- the outbox has what it had
 pub outbox_same : {S : Type 0} (means : S → Peer → Type 0) (before : List Action) (core : ServerCore S) (out then : Contents) (c : Course) → CourseStands means before core out c
