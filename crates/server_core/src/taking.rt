@@ -1,6 +1,6 @@
 //! A core takes an event, or has not changed.
 
-ghost use Rattle.std.specs.Prelude.{◌≡◌, ◌≤◌, [], List, length, option_map, OnOk, OnErr};
+ghost use Rattle.std.specs.Prelude.{◌≡◌, ◌≤◌, ◌^◌, [], List, length, option_map, OnOk, OnErr};
 ghost use Rattle.vpn_links.specs.Actions as links;
 ghost use Rattle.vpn_links.specs.Actions.{Action, Contents, Holds};
 ghost use Rattle.vpn_links.specs.Rounds.{IsOfLine};
@@ -33,7 +33,7 @@ fn take_back<S: ClientSession>(
 )
     ensures back { (before : List Action) (out : Contents) (t : Table) (event : Event) → CourseStands S.stands before core.old out (course_begun t event) → moment.0 ≡ t.moment →
         option_map (λ went. (went.0.0, went.1)) last_taken ≡ t.last_taken → CoreStands S.stands core.new t }
-    ensures sound { IsSoundAhead S.goes_on S.count S.since core.old → NoneIsLater S.since moment.0 core.old → IsSound S.goes_on S.count S.since core.new }
+    ensures sound { IsSoundAhead S.goes_on S.count S.since core.old → NoneIsLater S.since moment.0 core.old → moment.0 ≤ 2 ^ 52 → IsSound S.goes_on S.count S.since core.new }
 {
     core.moment = moment;
     core.events = core.events.saturating_sub(1);

@@ -30,20 +30,20 @@ returns-in-EngineDown-clause-came g c =
     let means = g.S.ClientSession.stands in
     let core = c.args.core.now in
     let new = c.engine_down.new in
-    if_told c.engine_down.result c.told.result (λ lacks. Comes means core new.core c.args.out.now new.out (came lacks c.args.draw.now c.args.kind.now)) c.told.ensures
+    if_told c.engine_down.result c.told-in-EngineDown.result (λ lacks. Comes means core new.core c.args.out.now new.out (came lacks c.args.draw.now c.args.kind.now)) c.told-in-EngineDown.ensures
     (ok_then c.engine_down.result c.engine_down.ensures.came
     (down_comes means core new.core c.args.out.now new.out c.args.draw.now c.args.kind.now _ c.in-EngineDown.conn c.in-EngineDown.is))
 
 pub returns-in-EngineDown-clause-lacking : goal.returns-in-EngineDown-clause-lacking
 returns-in-EngineDown-clause-lacking g c =
-    err_told c.engine_down.result c.told.result (MayWant g.S.ClientSession.stands c.args.core.now c.args.out.now c.args.draw.now c.args.kind.now) c.told.ensures
+    err_told c.engine_down.result c.told-in-EngineDown.result (MayWant g.S.ClientSession.stands c.args.core.now c.args.out.now c.args.draw.now c.args.kind.now) c.told-in-EngineDown.ensures
     (err_then c.engine_down.result c.engine_down.ensures.lacking
     (down_wants g.S.ClientSession.stands c.args.core.now c.args.out.now c.args.draw.now c.args.kind.now c.in-EngineDown.conn c.in-EngineDown.is))
 
 pub returns-in-DeviceIn-clause-came : goal.returns-in-DeviceIn-clause-came
 returns-in-DeviceIn-clause-came g c =
-    device_comes g.S.ClientSession.stands c.args.core.now c.device_came.new.self c.args.out.now c.device_came.new.out c.args.draw.now c.args.kind.now _ c.as_slice.result.now
-    (c.in-DeviceIn.is ∙ ap DeviceIn (sym c.as_slice.ensures)) c.device_came.ensures.came
+    device_comes g.S.ClientSession.stands c.args.core.now c.device_came.new.self c.args.out.now c.device_came.new.out c.args.draw.now c.args.kind.now _ c.as_slice-in-DeviceIn.result.now
+    (c.in-DeviceIn.is ∙ ap DeviceIn (sym c.as_slice-in-DeviceIn.ensures)) c.device_came.ensures.came
 
 pub returns-in-DeviceReady-clause-came : goal.returns-in-DeviceReady-clause-came
 returns-in-DeviceReady-clause-came g c =
@@ -52,21 +52,21 @@ returns-in-DeviceReady-clause-came g c =
 
 pub returns-in-Line-clause-came : goal.returns-in-Line-clause-came
 returns-in-Line-clause-came g c =
-    line_comes g.S.ClientSession.stands c.args.core.now c.args.core.now c.args.out.now c.line_came.new.out c.args.draw.now c.args.kind.now _ c.as_slice.result.now
-    (c.in-Line.is ∙ ap Line (sym c.as_slice.ensures)) c.line_came.ensures.came
+    line_comes g.S.ClientSession.stands c.args.core.now c.args.core.now c.args.out.now c.line_came.new.out c.args.draw.now c.args.kind.now _ c.as_slice-in-Line.result.now
+    (c.in-Line.is ∙ ap Line (sym c.as_slice-in-Line.ensures)) c.line_came.ensures.came
 
 pub returns-in-Tick-clause-came : goal.returns-in-Tick-clause-came
 returns-in-Tick-clause-came g c =
     let means = g.S.ClientSession.stands in
     let core = c.args.core.now in
     let new = c.tick.new in
-    if_told c.tick.result c.told.result (λ lacks. Comes means core new.core c.args.out.now new.out (came lacks c.args.draw.now c.args.kind.now)) c.told.ensures
+    if_told c.tick.result c.told-in-Tick.result (λ lacks. Comes means core new.core c.args.out.now new.out (came lacks c.args.draw.now c.args.kind.now)) c.told-in-Tick.ensures
     (ok_then c.tick.result c.tick.ensures.ticked
     (tick_comes means core new.core c.args.out.now new.out c.args.draw.now c.args.kind.now _ c.in-Tick.is))
 
 pub returns-in-Tick-clause-lacking : goal.returns-in-Tick-clause-lacking
 returns-in-Tick-clause-lacking g c =
-    err_told c.tick.result c.told.result (MayWant g.S.ClientSession.stands c.args.core.now c.args.out.now c.args.draw.now c.args.kind.now) c.told.ensures
+    err_told c.tick.result c.told-in-Tick.result (MayWant g.S.ClientSession.stands c.args.core.now c.args.out.now c.args.draw.now c.args.kind.now) c.told-in-Tick.ensures
     (err_always c.tick.result
     (tick_wants g.S.ClientSession.stands c.args.core.now c.args.out.now c.args.draw.now c.args.kind.now c.in-Tick.is (λ before course h fresh. time_is_no_refusal course fresh)))
 
@@ -93,30 +93,30 @@ pub returns-in-EnginePlain-clause-came : goal.returns-in-EnginePlain-clause-came
 returns-in-EnginePlain-clause-came g c =
     let means = g.S.ClientSession.stands in
     let core = c.args.core.now in
-    let new = c.engine_answered.new in
-    if_told c.engine_answered.result c.told.result (λ lacks. Comes means core new.core c.args.out.now new.out (came lacks c.args.draw.now c.args.kind.now)) c.told.ensures
-    (ok_then c.engine_answered.result c.engine_answered.ensures.came
+    let new = c.engine_answered-in-EnginePlain.new in
+    if_told c.engine_answered-in-EnginePlain.result c.told-in-EnginePlain.result (λ lacks. Comes means core new.core c.args.out.now new.out (came lacks c.args.draw.now c.args.kind.now)) c.told-in-EnginePlain.ensures
+    (ok_then c.engine_answered-in-EnginePlain.result c.engine_answered-in-EnginePlain.ensures.came
     (plain_comes means core new.core c.args.out.now new.out c.args.draw.now c.args.kind.now _ c.in-EnginePlain.conn c.in-EnginePlain.bytes c.in-EnginePlain.is))
 
 pub returns-in-EnginePlain-clause-lacking : goal.returns-in-EnginePlain-clause-lacking
 returns-in-EnginePlain-clause-lacking g c =
-    err_told c.engine_answered.result c.told.result (MayWant g.S.ClientSession.stands c.args.core.now c.args.out.now c.args.draw.now c.args.kind.now) c.told.ensures
-    (err_then c.engine_answered.result c.engine_answered.ensures.lacking
+    err_told c.engine_answered-in-EnginePlain.result c.told-in-EnginePlain.result (MayWant g.S.ClientSession.stands c.args.core.now c.args.out.now c.args.draw.now c.args.kind.now) c.told-in-EnginePlain.ensures
+    (err_then c.engine_answered-in-EnginePlain.result c.engine_answered-in-EnginePlain.ensures.lacking
     (plain_wants g.S.ClientSession.stands c.args.core.now c.args.out.now c.args.draw.now c.args.kind.now c.in-EnginePlain.conn c.in-EnginePlain.bytes c.in-EnginePlain.is))
 
 pub returns-in-EngineUp-clause-came : goal.returns-in-EngineUp-clause-came
 returns-in-EngineUp-clause-came g c =
     let means = g.S.ClientSession.stands in
     let core = c.args.core.now in
-    let new = c.engine_answered.new in
-    if_told c.engine_answered.result c.told.result (λ lacks. Comes means core new.core c.args.out.now new.out (came lacks c.args.draw.now c.args.kind.now)) c.told.ensures
-    (ok_then c.engine_answered.result c.engine_answered.ensures.came
+    let new = c.engine_answered-in-EngineUp.new in
+    if_told c.engine_answered-in-EngineUp.result c.told-in-EngineUp.result (λ lacks. Comes means core new.core c.args.out.now new.out (came lacks c.args.draw.now c.args.kind.now)) c.told-in-EngineUp.ensures
+    (ok_then c.engine_answered-in-EngineUp.result c.engine_answered-in-EngineUp.ensures.came
     (up_comes means core new.core c.args.out.now new.out c.args.draw.now c.args.kind.now _ c.in-EngineUp.conn c.in-EngineUp.name c.in-EngineUp.is))
 
 pub returns-in-EngineUp-clause-lacking : goal.returns-in-EngineUp-clause-lacking
 returns-in-EngineUp-clause-lacking g c =
-    err_told c.engine_answered.result c.told.result (MayWant g.S.ClientSession.stands c.args.core.now c.args.out.now c.args.draw.now c.args.kind.now) c.told.ensures
-    (err_then c.engine_answered.result c.engine_answered.ensures.lacking
+    err_told c.engine_answered-in-EngineUp.result c.told-in-EngineUp.result (MayWant g.S.ClientSession.stands c.args.core.now c.args.out.now c.args.draw.now c.args.kind.now) c.told-in-EngineUp.ensures
+    (err_then c.engine_answered-in-EngineUp.result c.engine_answered-in-EngineUp.ensures.lacking
     (up_wants g.S.ClientSession.stands c.args.core.now c.args.out.now c.args.draw.now c.args.kind.now c.in-EngineUp.conn c.in-EngineUp.name c.in-EngineUp.is))
 
 pub returns-in-File-clause-came : goal.returns-in-File-clause-came
@@ -124,12 +124,12 @@ returns-in-File-clause-came g c =
     let means = g.S.ClientSession.stands in
     let core = c.args.core.now in
     let new = c.file_came.new in
-    if_told c.file_came.result c.told.result (λ lacks. Comes means core new.core c.args.out.now new.out (came lacks c.args.draw.now c.args.kind.now)) c.told.ensures
+    if_told c.file_came.result c.told-in-File.result (λ lacks. Comes means core new.core c.args.out.now new.out (came lacks c.args.draw.now c.args.kind.now)) c.told-in-File.ensures
     (ok_then c.file_came.result c.file_came.ensures.came
     (file_comes means core new.core c.args.out.now new.out c.args.draw.now c.args.kind.now _ c.in-File.cid c.in-File.answer c.in-File.is))
 
 pub returns-in-File-clause-lacking : goal.returns-in-File-clause-lacking
 returns-in-File-clause-lacking g c =
-    err_told c.file_came.result c.told.result (MayWant g.S.ClientSession.stands c.args.core.now c.args.out.now c.args.draw.now c.args.kind.now) c.told.ensures
+    err_told c.file_came.result c.told-in-File.result (MayWant g.S.ClientSession.stands c.args.core.now c.args.out.now c.args.draw.now c.args.kind.now) c.told-in-File.ensures
     (err_then c.file_came.result c.file_came.ensures.lacking
     (file_wants g.S.ClientSession.stands c.args.core.now c.args.out.now c.args.draw.now c.args.kind.now c.in-File.cid c.in-File.answer c.in-File.is))
