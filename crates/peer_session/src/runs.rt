@@ -181,14 +181,15 @@ fn read_text<S: ClientSession>(
     }
 }
 
-// The plain text of a datagram that was unwrapped where it lies.
-fn plain_of(datagram: &[u8]) -> &[u8]
-    ensures { result.now ≡ drop 49 datagram.now }
+// What stands behind so many bytes.
+#[tactic(auto, using(crate::proofs::Courses::none_behind, crate::proofs::Courses::all_behind))]
+fn behind(bytes: &[u8], head: usize) -> &[u8]
+    ensures { result.now ≡ drop head bytes.now }
 {
-    if datagram.len() < OVERHEAD {
+    if bytes.len() < head {
         return &[];
     }
-    &datagram[OVERHEAD..]
+    &bytes[head..]
 }
 
 // A control packet of this opcode is unwrapped where it lies.
@@ -221,7 +222,7 @@ fn unwrap_datagram<S: ClientSession, W: Wrap>(
                 sid: header.sid,
                 id: header.id,
                 time: header.time,
-                plain: plain_of(datagram),
+                plain: behind(datagram, OVERHEAD),
             };
             read_text(session, op, &opened, to, next_conn, established, now, out)
         }
@@ -323,7 +324,7 @@ fn exchange_comes<S: ClientSession>(
 // The message that waits.
 fn message_of<S: ClientSession>(alloc: Global, session: &S) -> Result<SessionAnswer, NoMemory>
     ensures comes { IfOk result (λ answer. (p : Peer) → S.stands session.now p → answer ≡ message_told (next_message p)) }
-    ensures goes_on { IfOk result (λ answer. (X : Type 0) → X → GoesOnUntil X answer) }
+    ensures plain { IfOk result (λ answer. ends answer ≡ false) }
 {
     match session.next_message() {
         None => Ok(SessionAnswer::NoMessage),
@@ -332,6 +333,7 @@ fn message_of<S: ClientSession>(alloc: Global, session: &S) -> Result<SessionAns
 }
 
 // The next message is passed.
+#[tactic(auto, using(crate::proofs::Courses::goes_on_until, crate::proofs::Courses::nothing_done))]
 fn message_comes<S: ClientSession>(
     alloc: Global,
     session: &mut S,
@@ -408,16 +410,6 @@ fn seal_comes<S: ClientSession>(
     }
 }
 
-// What stands behind the head of an opened data packet.
-fn inner_of(datagram: &[u8]) -> &[u8]
-    ensures { result.now ≡ drop 24 datagram.now }
-{
-    if datagram.len() < DATA_HEAD {
-        return &[];
-    }
-    &datagram[DATA_HEAD..]
-}
-
 // A data packet is opened where it lies.
 fn open_datagram<S: ClientSession>(
     alloc: Global,
@@ -435,7 +427,7 @@ fn open_datagram<S: ClientSession>(
     ensures since { S.since session.new ≤ now.0 }
 {
     match session.unseal(datagram, now) {
-        Ok(_) => Ok(SessionAnswer::Inner(Bytes::copy(alloc, inner_of(datagram))?)),
+        Ok(_) => Ok(SessionAnswer::Inner(Bytes::copy(alloc, behind(datagram, DATA_HEAD))?)),
         Err(fault) => Ok(SessionAnswer::Fault(fault)),
     }
 }
