@@ -3,15 +3,19 @@ use Rattle.std.proofs.Common.{◌≡◌, ◌<◌, ◌≤◌, ◌+◌, ◌-◌, �
 use Rattle.std.proofs.lemmas.List.{append-nil, append_assoc, take_all, take_more}
 use Rattle.vpn_base.specs.declared.address.Addr.{Addr}
 use Rattle.vpn_base.specs.declared.names.Moment.{Moment}
+use Rattle.vpn_base.specs.declared.names.Role.TheVariants.{Server}
 use Rattle.vpn_links.specs.Actions.{Action, Contents, Datagram, Holds}
-use Rattle.tls_crypt.specs.Packets.{Wrapping}
-use Rattle.peer_table.specs.Peer.{Peer}
+use Rattle.tls_crypt.specs.Packets.{Directions, Wrapping}
+use Rattle.tls_crypt.specs.Wrapped.{half, keys_of, read_half, wrapped, written_half}
+use Rattle.peer_table.specs.Outboxes.{Leaves}
+use Rattle.peer_table.specs.Peer.{Peer, began}
 use Rattle.peer_session.specs.declared.runs.Progress.{Progress}
 use Rattle.peer_session.specs.declared.runs.SessionAnswer.{SessionAnswer}
 use Rattle.peer_session.specs.declared.runs.SessionAnswer.TheVariants as answers
 use Rattle.peer_table.specs.declared.outcomes.Turn.{Turn}
 use Rattle.peer_table.specs.declared.outcomes.Turn.TheVariants as turns
-use Rattle.peer_session.specs.Runs.{Coming, Course, EventAt, after_event, after_event_if, after_events, course_with, ends, event_comes, no_earlier}
+use Rattle.peer_session.specs.declared.runs.SessionSetup.{SessionSetup}
+use Rattle.peer_session.specs.Runs.{Coming, Course, EventAt, after_event, after_event_if, after_events, course_begun, course_with, ends, event_comes, no_earlier, session_run}
 use Rattle.peer_session.specs.internal.Courses.{GoesOnUntil, HasCome, IsAt}
 
 -- what holds of an answer, from what is known of it
@@ -86,7 +90,7 @@ at_after means run next before after effects staged c wraps to e answer at going
     let o : Coming = event_comes wraps to c.peer next.latest e.1 in
     let same : next.latest ≡ no_earlier c.latest e.0 = latest ∙ ap (λ (m : Moment). no_earlier m e.0) at.latest in
     let is : after_event_if c.is_over wraps to c e ≡ course_with c next.latest o =
-        ap (λ b. after_event_if b wraps to c e) (sym at.over ∙ going) ∙ ap (λ (m : Moment). course_with c m (event_comes wraps to c.peer m e.1)) (sym same) in
+    ap (λ b. after_event_if b wraps to c e) (sym at.over ∙ going) ∙ ap (λ (m : Moment). course_with c m (event_comes wraps to c.peer m e.1)) (sym same) in
     subst (IsAt means next after effects staged) (sym is) (record {
       peer = come.peer;
       latest = refl;
@@ -114,3 +118,19 @@ after_next wraps to c n events e below is =
 -- all of them
 pub after_whole : (wraps : Wrapping) (to : Addr) (c : Course) (n : ℕ) (events : List EventAt) → length events ≤ n → after_events wraps to c (take n events) ≡ after_events wraps to c events
 after_whole wraps to c n events all = ap (λ (t : List EventAt). after_events wraps to c t) (take_all n events all)
+
+-- ---- the run
+
+-- a session that has begun is at the beginning of the run
+pub at_begun : {S : Type 0} (means : S → Peer → Type 0) (run : Progress S) (before after : Contents) (setup : SessionSetup) (key : List ℕ)
+    → Leaves means run.session before after setup.to (began Server (wrapped (keys_of (half key (written_half Server)))) setup.own setup.timers setup.conn setup.began.0)
+    → run.latest ≡ setup.began → run.is_over ≡ false → run.answers.items ≡ [] → IsAt means run after before.effects before.staged (course_begun setup key)
+unfolding course_begun
+at_begun means run before after setup key left latest over none = record { peer = left.peer; latest = latest; over = over; answers = none; outbox = left.outbox }
+
+-- the keys under which the server unwraps are those under which its clients wrap
+pub run_so : (setup : SessionSetup) (key : List ℕ) (events : List EventAt) (wrapper : Directions)
+    → wrapper ≡ record { writes = keys_of (half key (written_half Server)); reads = keys_of (half key (read_half Server)) }
+    → after_events (wrapped wrapper.reads) setup.to (course_begun setup key) events ≡ session_run setup key events
+unfolding session_run
+run_so setup key events wrapper is = ap (λ (w : Directions). after_events (wrapped w.reads) setup.to (course_begun setup key) events) is

@@ -179,7 +179,7 @@ after_events wraps to c (e ∷ events) = after_events wraps to (after_event wrap
 unfoldable pub course_begun : SessionSetup → List ℕ → Course
 course_begun setup key =
     let o = called setup.to answers.Turn
-        (began Server (wrapped (keys_of (half key (written_half Server)))) setup.own setup.timers setup.conn setup.began.0) in
+    (began Server (wrapped (keys_of (half key (written_half Server)))) setup.own setup.timers setup.conn setup.began.0) in
     record { peer = o.peer; latest = setup.began; is_over = false; answers = []; effects = o.effects; staged = o.staged }
 
 -- the run of these events over it, in their order
