@@ -102,7 +102,7 @@ module _ {S : Type 0} (goes_on : S → Type 0) (count since : S → ℕ) (core :
     told_kept same moment none =
         let early : Entry (ClientState S) → Type 0 = λ e. since e.value.session ≤ moment in
         let was : since v.session ≤ moment =
-            value_some (slice_get (entries_of core.clients) i) v (λ u. since u.session ≤ moment) there (λ e at. all_at early (entries_of core.clients) i e none at) in
+        value_some (slice_get (entries_of core.clients) i) v (λ u. since u.session ≤ moment) there (λ e at. all_at early (entries_of core.clients) i e none at) in
         subst (AllByRecursion early) (sym is.entries_are)
         (all_changed early early (table.with_value w) (entries_of core.clients) i (λ e g. g) none (λ e at. subst (λ n. n ≤ moment) (sym same) was))
 

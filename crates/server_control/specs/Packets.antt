@@ -1,5 +1,5 @@
 -- Control packets as handlers get them.
-use Rattle.std.specs.Prelude.{ℕ, ◌-◌, ◌≤◌, length}
+use Rattle.std.specs.Prelude.{ℕ, ◌≤◌, length}
 use Rattle.vpn_links.specs.declared.events.Kind.{Kind}
 use Rattle.vpn_links.specs.declared.events.Kind.TheVariants.{Datagram}
 use Rattle.opcode_codec.specs.ControlText.{control_form}
@@ -7,8 +7,6 @@ use Rattle.opcode_codec.specs.declared.control.ControlView.{ControlView}
 use Rattle.tls_crypt.specs.Packets.{Packet}
 use Rattle.tls_crypt.specs.declared.wrapping.Opened.{Opened}
 use Rattle.server_table.specs.ControlDatagrams.{ControlPacket}
-use Rattle.server_state.specs.declared.state.ServerCore.{ServerCore}
-use Rattle.server_state.specs.Core.{IsSound}
 
 -- a control packet that was unwrapped
 abbrev pub opened_packet : Opened → Packet
