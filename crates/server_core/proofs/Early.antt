@@ -1,6 +1,6 @@
 -- What ends a client and what time brings is no refusal that comes before anything is done.
 use Rattle.std.proofs.Common.{◌≡◌, ℕ, zero, suc, Bool, true, false, List, [], ◌∷◌, ◌++◌, length, map, Option, Some, None, Result, Ok, Err, refl, ap, ◌∙◌}
-use Rattle.std.specs.Prelude.{◌||◌, ◌&&◌, is_some}
+use Rattle.std.specs.Prelude.{◌||◌}
 use Rattle.std.specs.List.{list_any}
 use Rattle.std.proofs.lemmas.List.Folds.{list_any-append}
 use Rattle.vpn_base.specs.declared.names.Cause.{Cause}
@@ -12,7 +12,7 @@ use Rattle.vpn_links.specs.declared.notes.Note.TheVariants.{KeySpent}
 use Rattle.vpn_links.specs.Actions.{Action, Configure, Device, EngineClose, EngineOpen, EnginePut, EngineWrite, Ask, Report, Say, Stop, Wire, on_wire}
 use Rattle.peer_table.specs.DataPackets as packets
 use Rattle.peer_table.specs.Outboxes.{actions_of}
-use Rattle.peer_table.specs.Peer.{Closes, Doing, Opens, Outcome, Peer, Puts, Writes}
+use Rattle.peer_table.specs.Peer.{Closes, Doing, Opens, Peer, Puts, Writes}
 use Rattle.peer_table.specs.Time as time
 use Rattle.peer_table.specs.Time.{closings}
 use Rattle.peer_table.specs.declared.outcomes.Turn.{Turn}
@@ -21,7 +21,7 @@ use Rattle.server_table.specs.Courses.{Course, Staged, acted, outs}
 use Rattle.server_table.specs.DataDatagrams.{ping}
 use Rattle.server_table.specs.Endings.{disconnect_line, ended, ended_as, turned}
 use Rattle.server_table.specs.Engine.{down_at, engine_is_down}
-use Rattle.server_table.specs.InnerPackets.{sealed_as, sealed_for, sealed_to, sealed_with}
+use Rattle.server_table.specs.InnerPackets.{sealed_as, sealed_for, sealed_to}
 use Rattle.server_table.specs.Lookups.{by_connection, cid, client_here}
 use Rattle.server_table.specs.Runs.{is_early_note, is_refusal}
 use Rattle.server_table.specs.Table.{Client, Established}

@@ -14,12 +14,11 @@ use Rattle.vpn_links.specs.declared.notes.Note.TheVariants as notes
 use Rattle.vpn_links.specs.declared.events.Kind.{Kind}
 use Rattle.vpn_links.specs.declared.events.Kind.TheVariants.{DeviceIn, DeviceReady, EngineDown, EnginePlain, EngineText, EngineUp, File, Halt, Line, Tick}
 use Rattle.vpn_links.specs.declared.events.Kind.TheVariants as kinds
-use Rattle.opcode_codec.specs.ControlText.{ControlForm, control_of}
+use Rattle.opcode_codec.specs.ControlText.{ControlForm}
 use Rattle.opcode_codec.specs.DataPacket.{DataForm}
 use Rattle.opcode_codec.specs.Packet.{PacketForm, Inner, Wrapped, packet_of}
 use Rattle.opcode_codec.specs.declared.opcodes.Opcode.{Opcode}
 use Rattle.tls_crypt.specs.Packets.{Packet}
-use Rattle.tls_crypt.specs.Unwrapping.{unwrapping}
 use Rattle.ip_packets.specs.Inner.{source}
 use Rattle.inner_verdict.specs.declared.Verdict.{Verdict}
 use Rattle.inner_verdict.specs.declared.Verdict.TheVariants.{BadSource, Multicast, NoRoute, NotIp, ToClient, ToDevice, TooLong}
@@ -29,7 +28,7 @@ use Rattle.peer_table.specs.Peer.{Outcome, Peer}
 use Rattle.peer_table.specs.declared.outcomes.SessionFault.{SessionFault}
 use Rattle.peer_table.specs.declared.outcomes.SessionFault.TheVariants.{BadKey, NotSealed, Stale}
 use Rattle.server_table.specs.ControlDatagrams as control
-use Rattle.server_table.specs.Courses.{Course, Staged, did, outs, reported}
+use Rattle.server_table.specs.Courses.{Course, Staged, outs, reported}
 use Rattle.server_table.specs.DataDatagrams as data_packets
 use Rattle.server_table.specs.InnerPackets as inner_packets
 use Rattle.server_table.specs.Lookups.{client_here}

@@ -1,11 +1,11 @@
 -- A step, from where it begins to where its control datagrams stand behind its effects.
 use Rattle.std.proofs.Common.{◌≡◌, ℕ, ◌+◌, ◌≤◌, Bool, true, false, List, [], ◌∷◌, ◌++◌, map, refl, sym, ap, subst, ◌∙◌}
-use Rattle.std.specs.Prelude.{◌||◌, IsTrue, IsFalse}
+use Rattle.std.specs.Prelude.{◌||◌}
 use Rattle.std.specs.List.{AllByRecursion, list_any}
 use Rattle.std.proofs.lemmas.Bool.{false≢true}
 use Rattle.std.proofs.lemmas.List.{append_assoc}
-use Rattle.vpn_links.specs.Actions.{Action, Contents, Datagram, Holds, on_wire}
-use Rattle.vpn_links.specs.Steps.{Lack, LacksAll, LacksHost, Stepped}
+use Rattle.vpn_links.specs.Actions.{Action, Contents, Holds, on_wire}
+use Rattle.vpn_links.specs.Steps.{LacksAll, LacksHost, Stepped}
 use Rattle.vpn_links.specs.declared.events.Event.{Event}
 use Rattle.client_table.specs.declared.table.ClientTable.{ClientTable}
 use Rattle.client_table.specs.Entries.{Entry}
