@@ -28,3 +28,6 @@ mod turns;
 pub use laws::retired_sessions_stay_retired;
 pub use runs::{SessionAnswer, SessionEvent, SessionSetup, run_session};
 pub use session::PeerSession;
+
+#[cfg(test)]
+mod tests;

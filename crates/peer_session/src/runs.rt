@@ -1,6 +1,6 @@
 //! Whole runs of a client's session.
 
-ghost use Rattle.std.specs.Prelude.{◌≡◌, ◌≤◌, ◌<◌, ◌+◌, ◌-◌, ◌^◌, ◌++◌, ℕ, List, Bool, length, drop, nat_lt, max, false, IfOk, OnOk};
+ghost use Rattle.std.specs.Prelude.{◌≡◌, ◌≤◌, ◌<◌, ◌+◌, ◌-◌, ◌^◌, ◌++◌, List, length, drop, nat_lt, false, IfOk, OnOk};
 ghost use Rattle.vpn_links.specs.Actions.{Action, Contents, Datagram, Holds};
 ghost use Rattle.opcode_codec.specs.ControlText.{control_of};
 ghost use Rattle.opcode_codec.specs.Packet.{packet_of};
@@ -8,7 +8,6 @@ ghost use Rattle.tls_crypt.specs.Unwrapping.{unwrapping};
 ghost use Rattle.peer_table.specs.DataPackets.{data_came};
 ghost use Rattle.peer_table.specs.EngineAnswers.{engine_came};
 ghost use Rattle.peer_table.specs.Exchange.{after_message, next_message};
-ghost use Rattle.peer_table.specs.Outboxes.{HasRoom};
 ghost use Rattle.peer_table.specs.Peer.{Peer};
 ghost use Rattle.peer_table.specs.Time.{ticked, ticking};
 ghost use Rattle.peer_session.specs.Runs.{Course, after_event, after_events, called, control_read, control_seen, control_unwrapped, ends, event_comes, message_told, opening_told, quiet, session_run, taking_told, unseal_if, seal_if, exchange_if};

@@ -1,5 +1,5 @@
 -- A session and its outbox in the middle of a run.
-use Rattle.std.specs.Prelude.{◌≡◌, ◌≤◌, ◌++◌, ℕ, Bool, true, false, List, Result, Ok, Err}
+use Rattle.std.specs.Prelude.{◌≡◌, ◌++◌, List}
 use Rattle.vpn_links.specs.Actions.{Action, Contents, Datagram, Holds}
 use Rattle.tls_crypt.specs.Packets.{Packet}
 use Rattle.tls_crypt.specs.declared.wrapping.Opened.{Opened}
@@ -32,9 +32,3 @@ pub record IsAt {S : Type 0} (means : S → Peer → Type 0) (run : Progress S) 
   pub over : run.is_over ≡ c.is_over
   pub answers : run.answers.items ≡ c.answers
   pub outbox : Holds out (effects ++ c.effects) (staged ++ c.staged)
-
--- it goes on unless it is over, and so many events may have come at most
-pub record IsSound {S : Type 0} (goes_on : S → Type 0) (count since : S → ℕ) (run : Progress S) (most : ℕ) : Type 0 where
-  pub going : run.is_over ≡ false → goes_on run.session
-  pub few : count run.session ≤ most
-  pub past : since run.session ≤ run.latest.0

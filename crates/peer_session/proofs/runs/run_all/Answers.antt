@@ -1,5 +1,5 @@
-use Rattle.std.proofs.Common.{◌≡◌, ◌≤◌, ◌+◌, List, length, take, arith, sym, subst}
-use Rattle.peer_session.specs.Runs.{Course, EventAt, after_event, after_events}
+use Rattle.std.proofs.Common.{◌≤◌, List, length, take, arith, sym, subst}
+use Rattle.peer_session.specs.Runs.{Course, EventAt, after_events}
 use Rattle.peer_session.specs.internal.Courses.{IsAt}
 use Rattle.peer_session.proofs.Courses.{after_next, after_whole}
 use Rattle.peer_session.proofs.runs.run_all.Goals as goal

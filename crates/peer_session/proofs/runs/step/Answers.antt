@@ -1,5 +1,4 @@
-use Rattle.std.proofs.Common.{ap, ◌∙◌, refl}
-use Rattle.vpn_base.specs.declared.names.Moment.{Moment}
+use Rattle.std.proofs.Common.{ap}
 use Rattle.peer_session.proofs.Courses.{at_after, at_end}
 use Rattle.peer_session.proofs.runs.step.Goals as goal
 
