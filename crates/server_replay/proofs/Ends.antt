@@ -1,0 +1,124 @@
+-- What a replay comes to, by what its links stand for at its end.
+use Rattle.std.proofs.Common.{◌≡◌, ℕ, suc, ◌+◌, ◌≤◌, ◌<◌, ◌^◌, Bool, true, false, List, [], ◌∷◌, ◌++◌, length, refl, ap, sym, ◌∙◌, subst, arith, Option, Some, None}
+use Rattle.std.specs.Prelude.{◌⊎◌, inl, inr}
+use Rattle.std.proofs.lemmas.List.{length-map}
+use Rattle.vpn_base.specs.Answers.{Rose}
+use Rattle.vpn_base.specs.Files.{Holding}
+use Rattle.vpn_base.specs.Sink.{appended}
+use Rattle.vpn_links.specs.Actions.{Action}
+use Rattle.vpn_links.specs.Rounds.{Round}
+use Rattle.vpn_links.specs.declared.events.Event.{Event}
+use Rattle.vpn_links.specs.declared.links.LinkFault.{LinkFault}
+use Rattle.vpn_links.specs.declared.links.LinkFault.TheVariants as faults
+use Rattle.vpn_node.specs.Running.{Ends, given_in}
+use Rattle.vpn_node.specs.declared.outcome.Outcome.{Outcome}
+use Rattle.vpn_node.specs.declared.outcome.Outcome.TheVariants as outcomes
+use Rattle.vpn_node.specs.declared.outcome.Ran.{Ran}
+use Rattle.replay_links.specs.Replay.{Backing, Came, Caused, IsPart, IsRefused, Replay, ReplayStands, StandsFor, Wrote, backing_of, before_cut, begun_of, came_in, replay_faults}
+use Rattle.replay_links.specs.Replay as links
+use Rattle.replay_links.specs.declared.end.ReplayEnd.{ReplayEnd}
+use Rattle.replay_links.specs.declared.end.ReplayEnd.TheVariants as ends
+use Rattle.server_table.specs.Runs.{Entry, run}
+use Rattle.server_table.specs.Table.{Table}
+use Rattle.server_replay.specs.Replays.{BrokeBy, CameFrom, IsReplay, most_turns}
+use Rattle.server_replay.specs.Runs.{events_of}
+use Rattle.server_replay.specs.Transcript.{transcript}
+use Rattle.server_replay.specs.internal.Serving.{Counted, Served, told_as}
+use Rattle.server_replay.proofs.Written.{transcript_same}
+
+-- ---- how it ended
+
+ended_as : (outcome : Outcome) (turns : ℕ) (outs given : List (List Action)) → Ends outcome turns outs given → Ends (told_as outcome) turns outs given
+ended_as outcomes.Stopped turns outs given is = is
+ended_as outcomes.TurnsSpent turns outs given is = is
+ended_as outcomes.Memory turns outs given is = is
+ended_as (outcomes.Fault faults.Input) turns outs given is = is
+ended_as (outcomes.Fault faults.Output) turns outs given is = is
+ended_as (outcomes.Fault faults.Schedule) turns outs given is = is
+ended_as (outcomes.Fault faults.Wire) turns outs given is = is
+ended_as (outcomes.Fault faults.Engine) turns outs given is = is
+ended_as (outcomes.Fault faults.Device) turns outs given is = is
+ended_as (outcomes.Fault faults.Console) turns outs given is = is
+ended_as (outcomes.Fault faults.Random) turns outs given is = is
+
+input_by : (files files_now missing : ℕ) (ended : Option ReplayEnd) → Rose (files + 0) (files_now + missing) → (0 < missing → ended ≡ Some ends.Missing) →
+    (ended ≡ Some ends.Missing) ⊎ Rose files files_now
+input_by files files_now 0 ended rose no_file = inr (omega (arith, rose))
+input_by files files_now (suc n) ended rose no_file = inl (no_file (omega arith))
+
+-- ---- what it came to
+
+module _ {F S : Type 0} (holds : F → List ℕ → Holding) (contents : S → Option (List ℕ)) (files_count : F → ℕ) (out_count : S → ℕ) where
+  begun_uncut : (first : Replay F S) → ReplayStands holds contents first [] → first.is_cut ≡ false
+  begun_uncut first s = by_cut first.is_cut refl s.wrote
+    where
+      by_cut : (b : Bool) → first.is_cut ≡ b → Wrote (contents first.out) first.written b [] → first.is_cut ≡ false
+      by_cut false is w = is
+      by_cut true is w = absurd (omega (arith, w.cut.2.2.0))
+
+  -- what broke it off
+  pub broke : (first last : Replay F S) (rounds : List Round) (outcome : Outcome) → first.missing ≡ 0 → first.refused ≡ 0 → ReplayStands holds contents last rounds →
+      Counted outcome (replay_faults files_count out_count first) (replay_faults files_count out_count last) →
+      BrokeBy (told_as outcome) last.ended (files_count first.files, files_count last.files) (out_count first.out, out_count last.out)
+  broke first last rounds outcomes.Stopped missing refused s counted = tt
+  broke first last rounds outcomes.TurnsSpent missing refused s counted = tt
+  broke first last rounds outcomes.Memory missing refused s counted = tt
+  broke first last rounds (outcomes.Fault faults.Input) missing refused s counted =
+      input_by (files_count first.files) (files_count last.files) last.missing last.ended
+      (subst (λ (n : ℕ). Rose (files_count first.files + n) (files_count last.files + last.missing)) missing counted) s.no_file
+  broke first last rounds (outcomes.Fault faults.Output) missing refused s counted = counted
+  broke first last rounds (outcomes.Fault faults.Schedule) missing refused s counted = s.a_line (omega (arith, refused, counted))
+  broke first last rounds (outcomes.Fault faults.Wire) missing refused s counted = tt
+  broke first last rounds (outcomes.Fault faults.Engine) missing refused s counted = tt
+  broke first last rounds (outcomes.Fault faults.Device) missing refused s counted = tt
+  broke first last rounds (outcomes.Fault faults.Console) missing refused s counted = tt
+  broke first last rounds (outcomes.Fault faults.Random) missing refused s counted = tt
+
+  -- no line was cut before, so where one is now the output failed
+  pub uncut : (first last : Replay F S) → ReplayStands holds contents first [] → ((k : LinkFault) → replay_faults files_count out_count first k ≤ replay_faults files_count out_count last k) →
+      last.is_cut ≡ true → before_cut false (out_count first.out) ≤ before_cut true (out_count last.out)
+  uncut first last s falls cut =
+      subst (λ (b : Bool). before_cut false (out_count first.out) ≤ before_cut b (out_count last.out)) cut
+      (subst (λ (b : Bool). before_cut b (out_count first.out) ≤ before_cut last.is_cut (out_count last.out)) (begun_uncut first s) (falls faults.Wire))
+
+  -- the whole
+  pub replayed : (t : Table) (first last : Replay F S) (name : List ℕ) (holding : Holding) (before : Option (List ℕ)) (ran : Ran) →
+      ReplayStands holds contents first [] → backing_of holds contents first ≡ record { name = name; holding = holding; begun = before } →
+      backing_of holds contents last ≡ backing_of holds contents first →
+      Served t (ReplayStands holds contents first) (ReplayStands holds contents last) ran →
+      IsReplay t holding before (contents last.out) last.ended last.is_cut (record ran { outcome = told_as ran.outcome })
+  replayed t first last name holding before ran begun backing same r =
+      let s = r.told [] begun in
+      let is = same ∙ backing in
+      let held : holds last.files last.name ≡ holding = ap (λ (b : Backing). b.holding) is in
+      let wrote : begun_of (contents last.out) last.written ≡ before = ap (λ (b : Backing). b.begun) is in
+      record {
+        entries = r.entries;
+        given = given_in r.rounds;
+        part = s.wrote.part;
+        may = r.may;
+        schedule = record {
+          is_read = last.is_open;
+          text = last.text;
+          left = last.left;
+          fault = last.fault;
+          came = subst (λ (h : Holding). Came h last.is_open last.text last.left last.fault (events_of r.entries)) held
+              (subst (λ (l : List Event). Came (holds last.files last.name) last.is_open last.text last.left last.fault l) r.came s.events);
+          cause = subst (λ (h : Holding). Caused h last.is_open last.left last.fault last.ended) held s.cause;
+        };
+        outcome = ended_as ran.outcome most_turns (run t r.entries) (given_in r.rounds) r.ended;
+        cut = subst (λ (n : ℕ). IsPart last.is_cut n s.wrote.part) (sym (length-map r.rounds (λ (q : Round). q.event)) ∙ (ap length r.came ∙ length-map r.entries (λ (e : Entry). e.0))) s.wrote.cut;
+        written = s.wrote.holds ∙ ap (λ (c : Option (List ℕ)). appended c (links.transcript r.rounds ++ s.wrote.part)) wrote
+            ∙ ap (λ (l : List ℕ). appended before (l ++ s.wrote.part)) (transcript_same r.rounds);
+        events = r.events;
+        refused = r.refused;
+        whole = r.whole;
+      }
+
+  -- the file of the schedule is as it was
+  pub kept : (first last : Replay F S) (name : List ℕ) (before : Option (List ℕ)) →
+      backing_of holds contents first ≡ record { name = name; holding = holds first.files name; begun = before } →
+      backing_of holds contents last ≡ backing_of holds contents first → holds last.files name ≡ holds first.files name
+  kept first last name before backing same =
+      let is = same ∙ backing in
+      subst (λ (n : List ℕ). holds last.files n ≡ holds first.files name) (ap (λ (b : Backing). b.name) is) (ap (λ (b : Backing). b.holding) is)
