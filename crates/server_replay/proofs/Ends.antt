@@ -1,6 +1,6 @@
 -- What a replay comes to, by what its links stand for at its end.
-use Rattle.std.proofs.Common.{◌≡◌, ℕ, suc, ◌+◌, ◌≤◌, ◌<◌, ◌^◌, Bool, true, false, List, [], ◌∷◌, ◌++◌, length, refl, ap, sym, ◌∙◌, subst, arith, Option, Some, None}
-use Rattle.std.specs.Prelude.{◌⊎◌, inl, inr}
+use Rattle.std.proofs.Common.{◌≡◌, ℕ, suc, ◌+◌, ◌≤◌, ◌<◌, ◌^◌, Bool, true, false, List, [], ◌∷◌, ◌++◌, length, refl, ap, sym, ◌∙◌, subst, arith, inl, inr, zero, Option, Some, None}
+use Rattle.std.specs.Prelude.{◌⊎◌}
 use Rattle.std.proofs.lemmas.List.{length-map}
 use Rattle.vpn_base.specs.Answers.{Rose}
 use Rattle.vpn_base.specs.Files.{Holding}
@@ -23,7 +23,7 @@ use Rattle.server_table.specs.Table.{Table}
 use Rattle.server_replay.specs.Replays.{BrokeBy, CameFrom, IsReplay, most_turns}
 use Rattle.server_replay.specs.Runs.{events_of}
 use Rattle.server_replay.specs.Transcript.{transcript}
-use Rattle.server_replay.specs.internal.Serving.{Counted, Served, told_as}
+use Rattle.server_replay.specs.internal.Serving.{Counted, Served, told_as, told_run}
 use Rattle.server_replay.proofs.Written.{transcript_same}
 
 -- ---- how it ended
@@ -43,7 +43,7 @@ ended_as (outcomes.Fault faults.Random) turns outs given is = is
 
 input_by : (files files_now missing : ℕ) (ended : Option ReplayEnd) → Rose (files + 0) (files_now + missing) → (0 < missing → ended ≡ Some ends.Missing) →
     (ended ≡ Some ends.Missing) ⊎ Rose files files_now
-input_by files files_now 0 ended rose no_file = inr (omega (arith, rose))
+input_by files files_now zero ended rose no_file = inr (omega (arith, rose))
 input_by files files_now (suc n) ended rose no_file = inl (no_file (omega arith))
 
 -- ---- what it came to
@@ -54,7 +54,7 @@ module _ {F S : Type 0} (holds : F → List ℕ → Holding) (contents : S → O
     where
       by_cut : (b : Bool) → first.is_cut ≡ b → Wrote (contents first.out) first.written b [] → first.is_cut ≡ false
       by_cut false is w = is
-      by_cut true is w = absurd (omega (arith, w.cut.2.2.0))
+      by_cut true is w = absurd (omega (arith, w.cut.3))
 
   -- what broke it off
   pub broke : (first last : Replay F S) (rounds : List Round) (outcome : Outcome) → first.missing ≡ 0 → first.refused ≡ 0 → ReplayStands holds contents last rounds →
@@ -86,7 +86,7 @@ module _ {F S : Type 0} (holds : F → List ℕ → Holding) (contents : S → O
       ReplayStands holds contents first [] → backing_of holds contents first ≡ record { name = name; holding = holding; begun = before } →
       backing_of holds contents last ≡ backing_of holds contents first →
       Served t (ReplayStands holds contents first) (ReplayStands holds contents last) ran →
-      IsReplay t holding before (contents last.out) last.ended last.is_cut (record ran { outcome = told_as ran.outcome })
+      IsReplay t holding before (contents last.out) last.ended last.is_cut (told_run ran)
   replayed t first last name holding before ran begun backing same r =
       let s = r.told [] begun in
       let is = same ∙ backing in
@@ -111,14 +111,44 @@ module _ {F S : Type 0} (holds : F → List ℕ → Holding) (contents : S → O
         written = s.wrote.holds ∙ ap (λ (c : Option (List ℕ)). appended c (links.transcript r.rounds ++ s.wrote.part)) wrote
             ∙ ap (λ (l : List ℕ). appended before (l ++ s.wrote.part)) (transcript_same r.rounds);
         events = r.events;
+        lost = refl;
         refused = r.refused;
         whole = r.whole;
       }
 
-  -- the file of the schedule is as it was
-  pub kept : (first last : Replay F S) (name : List ℕ) (before : Option (List ℕ)) →
-      backing_of holds contents first ≡ record { name = name; holding = holds first.files name; begun = before } →
-      backing_of holds contents last ≡ backing_of holds contents first → holds last.files name ≡ holds first.files name
-  kept first last name before backing same =
-      let is = same ∙ backing in
-      subst (λ (n : List ℕ). holds last.files n ≡ holds first.files name) (ap (λ (b : Backing). b.name) is) (ap (λ (b : Backing). b.holding) is)
+  -- ---- the same of what was taken apart
+
+  pub replayed_apart : (t : Table) (first last : Replay F S) (name : List ℕ) (holding : Holding) (before : Option (List ℕ)) (ran : Ran)
+      (out : S) (ended : Option ReplayEnd) (is_cut : Bool) (told : Ran) → out ≡ last.out → ended ≡ last.ended → is_cut ≡ last.is_cut → told ≡ told_run ran →
+      ReplayStands holds contents first [] → backing_of holds contents first ≡ record { name = name; holding = holding; begun = before } →
+      backing_of holds contents last ≡ backing_of holds contents first →
+      Served t (ReplayStands holds contents first) (ReplayStands holds contents last) ran →
+      IsReplay t holding before (contents out) ended is_cut told
+  replayed_apart t first last name holding before ran out ended is_cut told is_out is_ended is_so is_told begun backing same r =
+      subst (λ (x : S). IsReplay t holding before (contents x) ended is_cut told) (sym is_out)
+      (subst (λ (x : Option ReplayEnd). IsReplay t holding before (contents last.out) x is_cut told) (sym is_ended)
+          (subst (λ (x : Bool). IsReplay t holding before (contents last.out) last.ended x told) (sym is_so)
+              (subst (λ (x : Ran). IsReplay t holding before (contents last.out) last.ended last.is_cut x) (sym is_told)
+                  (replayed t first last name holding before ran begun backing same r))))
+
+  pub broke_apart : (t : Table) (first last : Replay F S) (ran : Ran) (files files_now : F) (out out_now : S) (ended : Option ReplayEnd) (told : Ran) →
+      files_now ≡ last.files → out_now ≡ last.out → ended ≡ last.ended → told ≡ told_run ran →
+      first.files ≡ files → first.out ≡ out → first.missing ≡ 0 → first.refused ≡ 0 → ReplayStands holds contents first [] →
+      Served t (ReplayStands holds contents first) (ReplayStands holds contents last) ran →
+      Counted ran.outcome (replay_faults files_count out_count first) (replay_faults files_count out_count last) →
+      BrokeBy told.outcome ended (files_count files, files_count files_now) (out_count out, out_count out_now)
+  broke_apart t first last ran files files_now out out_now ended told is_files is_out is_ended is_told had_files had_out missing refused begun r counted =
+      subst (λ (x : F). BrokeBy told.outcome ended (files_count files, files_count x) (out_count out, out_count out_now)) (sym is_files)
+      (subst (λ (x : S). BrokeBy told.outcome ended (files_count files, files_count last.files) (out_count out, out_count x)) (sym is_out)
+          (subst (λ (x : Option ReplayEnd). BrokeBy told.outcome x (files_count files, files_count last.files) (out_count out, out_count last.out)) (sym is_ended)
+              (subst (λ (x : Ran). BrokeBy x.outcome last.ended (files_count files, files_count last.files) (out_count out, out_count last.out)) (sym is_told)
+                  (subst (λ (x : F). BrokeBy (told_as ran.outcome) last.ended (files_count x, files_count last.files) (out_count out, out_count last.out)) had_files
+                      (subst (λ (x : S). BrokeBy (told_as ran.outcome) last.ended (files_count first.files, files_count last.files) (out_count x, out_count last.out)) had_out
+                          (broke first last r.rounds ran.outcome missing refused (r.told [] begun) counted))))))
+
+  pub uncut_apart : (first last : Replay F S) (out out_now : S) (is_cut : Bool) → out_now ≡ last.out → is_cut ≡ last.is_cut → first.out ≡ out → ReplayStands holds contents first [] →
+      ((k : LinkFault) → replay_faults files_count out_count first k ≤ replay_faults files_count out_count last k) →
+      is_cut ≡ true → before_cut false (out_count out) ≤ before_cut true (out_count out_now)
+  uncut_apart first last out out_now is_cut is_out is_so had_out begun falls cut =
+      subst (λ (x : S). before_cut false (out_count out) ≤ before_cut true (out_count x)) (sym is_out)
+      (subst (λ (x : S). before_cut false (out_count x) ≤ before_cut true (out_count last.out)) had_out (uncut first last begun falls (sym is_so ∙ cut)))

@@ -87,13 +87,14 @@ test_same : (action : Action) → node.is_not_learned action ≡ is_not_learned 
 test_same (Report note) = note_same note
 test_same _ = refl
 
+counts_by : (action : Action) (actions : List Action) (b : Bool) → node.is_not_learned action ≡ b → (b || list_any is_not_learned actions) ≡ true →
+    (list_any is_not_learned actions ≡ true → 1 ≤ node.not_learned actions) → 1 ≤ node.not_learned (action ∷ actions)
+counts_by action actions true same is rest = rw same (omega arith)
+counts_by action actions false same is rest = rw same (omega (arith, rest is))
+
 told_counts : (actions : List Action) → list_any is_not_learned actions ≡ true → 1 ≤ node.not_learned actions
 told_counts [] is = absurd (false≢true is)
-told_counts (a ∷ actions) is = by_test (is_not_learned a) (test_same a) is
-  where
-    by_test : (b : Bool) → node.is_not_learned a ≡ b → (b || list_any is_not_learned actions) ≡ true → 1 ≤ node.not_learned (a ∷ actions)
-    by_test true same is = rw same (omega arith)
-    by_test false same is = rw same (told_counts actions is)
+told_counts (a ∷ actions) is = counts_by a actions (is_not_learned a) (test_same a) is (told_counts actions)
 
 lacks_none : (t : Table) (event : Event) (lack : Lack) → MayLack t event lack → left_out t event lack ≡ 0 → lack ≡ LacksNothing
 unfolding needs_host

@@ -1,5 +1,5 @@
 -- What a run of a node over the server's definitions comes to.
-use Rattle.std.proofs.Common.{◌≡◌, ℕ, ◌+◌, ◌≤◌, ◌^◌, List, [], ◌∷◌, ◌++◌, length, refl, ap, sym, ◌∙◌, subst, arith, append-nil, min}
+use Rattle.std.proofs.Common.{◌≡◌, ℕ, ◌+◌, ◌≤◌, ◌^◌, Bool, List, [], ◌∷◌, ◌++◌, length, refl, ap, sym, ◌∙◌, subst, arith, append-nil, min}
 use Rattle.std.proofs.lemmas.List.{length-map}
 use Rattle.vpn_links.specs.Actions.{Action}
 use Rattle.vpn_links.specs.Rounds.{Round}
@@ -54,9 +54,9 @@ none_capped : (n : ℕ) → capped n ≡ 0 → n ≡ 0
 none_capped n none = omega (arith, none)
 
 -- of a run
-pub served : (Stands : Table → Type 0) (Told_before Told : List Round → Type 0) (t : Table) (ran : Ran) →
+pub served : {Stands : Table → Type 0} {Told_before Told : List Round → Type 0} (t : Table) (ran : Ran) →
     RunOver next_table told_of MayLack Stands Told_before Told t most_turns ran → Served t Told_before Told ran
-served Stands Told_before Told t ran r =
+served t ran r =
     let may = may_run t r.entries r.may in
     let refused = r.refused ∙ ap capped (left_in_same t r.entries) in
     record {

@@ -43,6 +43,7 @@ pub record IsReplay (t : Table) (holding : Holding) (before now : Option (List �
   pub cut : IsPart is_cut (length entries) part
   pub written : now ≡ appended before (transcript given ++ part)
   pub events : ran.events ≡ length entries
+  pub lost : ran.lost ≡ 0
   pub refused : ran.refused ≡ capped (left_out_in t entries)
   pub whole : ran.refused ≡ 0 → LackNothing entries
 

@@ -6,13 +6,14 @@ ghost use Rattle.vpn_base.specs.Answers.{Rose};
 ghost use Rattle.vpn_base.specs.declared.names.Role.TheVariants as roles;
 ghost use Rattle.server_table.specs.Table.{table_begun};
 ghost use Rattle.server_replay.specs.Replays.{BrokeBy, IsReplay};
-ghost use Rattle.server_replay.specs.internal.Serving.{told_as};
+ghost use Rattle.server_replay.specs.internal.Serving.{told_as, told_run};
 
 use crate::serve::serve;
 use ovpn_config::Settings;
-use replay_links::{ReplayEnd, ReplayLinks};
+use peer_session::PeerSession;
+use replay_links::{ReplayEnd, ReplayLinks, a_cut_is_a_failure};
 use std::alloc::Global;
-use tls_crypt::StaticKey;
+use tls_crypt::{StaticKey, Wrapper};
 use vpn_base::{Files, Sink, Text};
 use vpn_links::LinkFault;
 use vpn_node::{Outcome, Ran};
@@ -48,25 +49,33 @@ fn told_as(outcome: Outcome) -> Outcome
     }
 }
 
+// A run, as it is told of a replay: each datagram has its line, so none is lost.
+fn told_run(ran: Ran) -> Ran
+    ensures { result ≡ told_run ran }
+{
+    Ran {
+        outcome: told_as(ran.outcome),
+        events: ran.events,
+        lost: 0,
+        refused: ran.refused,
+    }
+}
+
 // What links of a replay came to, at the end of a run.
 fn taken_apart<F: Files, S: Sink>(links: ReplayLinks<F, S>, ran: Ran) -> Replayed<F, S>
     ensures parts { (result.files ≡ links.files) × (result.out ≡ links.out) }
     ensures end { (result.ended ≡ links.ended) × (result.is_cut ≡ links.is_cut) }
-    ensures ran { result.ran ≡ record ran { outcome = told_as ran.outcome } }
+    ensures ran { result.ran ≡ told_run ran }
 {
     let ended = links.ended();
     let is_cut = links.is_cut();
     let (files, out) = links.parts();
-    let ran = Ran {
-        outcome: told_as(ran.outcome),
-        ..ran
-    };
     Replayed {
         files,
         out,
         ended,
         is_cut,
-        ran,
+        ran: told_run(ran),
     }
 }
 
@@ -87,10 +96,11 @@ pub fn replay<F: Files, S: Sink>(
     ensures broke { BrokeBy result.ran.outcome result.ended (F.faults files, F.faults result.files) (S.faults out, S.faults result.out) }
     ensures cut { result.is_cut ≡ true → Rose (S.faults out) (S.faults result.out) }
     ensures kept { F.holds result.files schedule ≡ F.holds files schedule }
-    ensures files { F.faults files ≤ F.faults result.files }
     ensures out { S.faults out ≤ S.faults result.out }
 {
+    a_cut_is_a_failure();
     let links = ReplayLinks::new(alloc, files, schedule, out);
-    let (links, ran) = serve(alloc, settings, key, links);
+    let (links, ran) =
+        serve::<PeerSession<Wrapper>, ReplayLinks<F, S>>(alloc, settings, key, links);
     taken_apart(links, ran)
 }

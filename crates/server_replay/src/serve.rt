@@ -7,14 +7,15 @@ ghost use Rattle.vpn_base.specs.declared.names.Role.TheVariants as roles;
 ghost use Rattle.vpn_links.specs.Rounds.{Round};
 ghost use Rattle.vpn_links.specs.declared.links.LinkFault.{LinkFault};
 ghost use Rattle.vpn_node.specs.Running.{Ends, RunOver};
-ghost use Rattle.server_table.specs.Table.{table_begun};
+ghost use Rattle.server_table.specs.Table.{Table, table_begun};
+ghost use Rattle.server_state.specs.Core.{CoreStands};
 ghost use Rattle.server_replay.specs.internal.Serving.{Counted, Served};
 
 use ovpn_config::Settings;
-use peer_session::PeerSession;
+use peer_table::ClientSession;
 use server_core::Server;
 use std::alloc::Global;
-use tls_crypt::{StaticKey, Wrapper};
+use tls_crypt::StaticKey;
 use vpn_base::{NoMemory, Or, Role, RouteList, Text, TextList};
 use vpn_links::{LinkFault, Links, Machine, Plan};
 use vpn_node::{Node, Outcome, Ran};
@@ -48,7 +49,7 @@ fn outcome_of(fault: Or<LinkFault>) -> Outcome
     }
 }
 
-// A run that no event came to.
+// A run to which no event came.
 fn never_ran(outcome: Outcome) -> Ran
     ensures { result ≡ record { outcome = outcome; events = 0; lost = 0; refused = 0 } }
 {
@@ -86,8 +87,34 @@ fn run_over<M: Machine, L: Links>(
     }
 }
 
+// What a run comes to that finds no memory for its server.
+fn never_served<L: Links>(links: L) -> (L, Ran)
+    ensures run { (t : Table) → Served t (L.stands links) (L.stands result.0) result.1 }
+    ensures failed { Counted result.1.outcome (L.faults links) (L.faults result.0) }
+    ensures never_falls { (k : LinkFault) → L.faults links k ≤ L.faults result.0 k }
+    ensures origin { L.origin_of result.0 ≡ L.origin_of links }
+{
+    (links, never_ran(Outcome::Memory))
+}
+
+// Runs a server over links.
+fn serve_by<S: ClientSession + Drop, L: Links>(
+    alloc: Global,
+    server: Server<S>,
+    links: L,
+    plan: &Plan,
+) -> (L, Ran)
+    ensures run { (t : Table) → CoreStands S.stands server t → Served t (L.stands links) (L.stands result.0) result.1 }
+    ensures failed { Counted result.1.outcome (L.faults links) (L.faults result.0) }
+    ensures never_falls { (k : LinkFault) → L.faults links k ≤ L.faults result.0 k }
+    ensures origin { L.origin_of result.0 ≡ L.origin_of links }
+{
+    let (_, links, ran) = run_over(alloc, server, links, plan);
+    (links, ran)
+}
+
 // Runs a server of this configuration and static key, to which nothing has come, over links.
-pub(crate) fn serve<L: Links>(
+pub(crate) fn serve<S: ClientSession + Drop, L: Links>(
     alloc: Global,
     settings: Settings,
     key: StaticKey,
@@ -101,11 +128,10 @@ pub(crate) fn serve<L: Links>(
     ensures origin { L.origin_of result.0 ≡ L.origin_of links }
 {
     let Ok(plan) = make_plan(alloc) else {
-        return (links, never_ran(Outcome::Memory));
+        return never_served(links);
     };
-    let Ok(server) = Server::<PeerSession<Wrapper>>::make(alloc, settings, key) else {
-        return (links, never_ran(Outcome::Memory));
+    let Ok(server) = Server::<S>::make(alloc, settings, key) else {
+        return never_served(links);
     };
-    let (_, links, ran) = run_over(alloc, server, links, &plan);
-    (links, ran)
+    serve_by(alloc, server, links, &plan)
 }

@@ -39,3 +39,7 @@ told_as (outcomes.Fault faults.Output) = outcomes.Fault faults.Output
 told_as (outcomes.Fault faults.Schedule) = outcomes.Fault faults.Schedule
 told_as (outcomes.Fault fault) = outcomes.Memory
 told_as outcome = outcome
+
+-- a run, as it is told of a replay: each datagram has its line, so none is lost
+abbrev pub told_run : Ran → Ran
+told_run ran = record { outcome = told_as ran.outcome; events = ran.events; lost = 0; refused = ran.refused }
