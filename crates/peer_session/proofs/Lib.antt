@@ -30,3 +30,4 @@ mod Taking
 mod Beginning
 mod Placing
 mod Ticking
+mod Courses

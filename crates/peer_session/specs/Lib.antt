@@ -1,4 +1,5 @@
 pub mod Standing
 pub mod Ready
 pub mod Client
+pub mod Runs
 pub mod internal

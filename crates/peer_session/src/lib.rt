@@ -18,6 +18,7 @@ mod packets;
 mod plain;
 mod ready;
 mod rooms;
+mod runs;
 mod said;
 mod session;
 mod tick;
@@ -25,4 +26,5 @@ mod ticks;
 mod turns;
 
 pub use laws::retired_sessions_stay_retired;
+pub use runs::{SessionAnswer, SessionEvent, SessionSetup, run_session};
 pub use session::PeerSession;

@@ -1,12 +1,11 @@
 -- What follows an answer of the engine or a file is no refusal that comes before anything is done.
-use Rattle.std.proofs.Common.{◌≡◌, ℕ, zero, suc, Bool, true, false, List, [], ◌∷◌, ◌++◌, map, Option, Some, None, Result, Ok, Err, refl, sym, ap, subst, ◌∙◌}
+use Rattle.std.proofs.Common.{◌≡◌, ℕ, zero, suc, Bool, true, false, List, [], ◌∷◌, ◌++◌, map, Option, Some, None, Result, Ok, Err, refl, sym, ap, ◌∙◌}
 use Rattle.std.specs.Prelude.{◌||◌, nat_lt}
 use Rattle.std.specs.List.{list_any}
 use Rattle.std.specs.Str.{bytes_eq}
 use Rattle.std.proofs.lemmas.Bool.{false≢true}
 use Rattle.std.proofs.lemmas.List.Folds.{list_any-append}
 use Rattle.vpn_base.specs.Network.{Network}
-use Rattle.vpn_base.specs.declared.address.Ip4.{Ip4}
 use Rattle.vpn_base.specs.declared.names.Cause.{Cause}
 use Rattle.vpn_base.specs.declared.names.Cause.TheVariants.{PoolEmpty, Replaced}
 use Rattle.vpn_base.specs.declared.names.Cid.{Cid}
@@ -25,7 +24,7 @@ use Rattle.ovpn_config.specs.declared.settings.Settings.{Settings}
 use Rattle.push_options.specs.Options.{options_of}
 use Rattle.push_options.specs.Parts.{reply_parts}
 use Rattle.peer_table.specs.EngineAnswers.{engine_came}
-use Rattle.peer_table.specs.Exchange.{after_message, first_conn, most_unread, next_message}
+use Rattle.peer_table.specs.Exchange.{after_message, cipher_of, exchanged, first_conn, most_unread, next_message}
 use Rattle.peer_table.specs.Outboxes.{actions_of}
 use Rattle.peer_table.specs.Peer.{Closes, Doing, Opens, Outcome, Puts, Writes}
 use Rattle.peer_table.specs.Time.{closings}
@@ -93,11 +92,11 @@ none_told n (Some e) = refl
 
 none_ended : (n : ℕ) (cause : Cause) (c : Course) → NoneEarly c.effects → NoneEarly (ended n cause c).effects
 unfolding ended
-none_ended n cause c none = as (client_here c.table n)
+none_ended n cause c none = by_client (client_here c.table n)
   where
-    as : (o : Option Client) → NoneEarly (ended_as n cause c o).effects
-    as None = none
-    as (Some x) =
+    by_client : (o : Option Client) → NoneEarly (ended_as n cause c o).effects
+    by_client None = none
+    by_client (Some x) =
         none_append c.effects _ none
         (none_append (disconnect_line n x.established) _ (none_told n x.established) (none_done x.session.role (closings x.session.sessions)))
 
@@ -214,7 +213,10 @@ none_acted : {A : Type 0} (n : ℕ) (x : Client) (o : Outcome A) (c : Course) �
 none_acted n x o c none = none_append c.effects _ none (none_done o.peer.role o.doings)
 
 none_with : (draw : Draw) (n : ℕ) (x : Client) (c : Course) (file : FileState) → KeepsNone c (exchange.exchange_with draw n x c file)
-none_with draw n x c (Known file) none = none_made n _ (none_turned n _ _ (none_acted n x _ c none))
+none_with draw n x c (Known file) none =
+    let o = exchanged (exchange.policy_with c.table.settings.ciphers (cipher_of x.session)) x.peer_id draw x.session in
+    let then = acted n x.address o c in
+    none_made n (turned n o.answer then) (none_turned n o.answer then (none_acted n x o c none))
 none_with draw n x c (Awaited name) none = none
 none_with draw n x c Unasked none = none
 
@@ -290,7 +292,8 @@ none_answer_for draw kind n c None none = none
 none_answer_for draw kind n c (Some x) none = none_answer draw n x c kind (engine_came kind c.table.moment x.session) none
 
 no_refusal : (c : Course) → NoneEarly c.effects → is_refusal (outs c) ≡ false
-no_refusal c none = not_refused _ (none_append c.effects _ none (none_wired c.staged))
+no_refusal c none =
+    not_refused (outs c) (none_append c.effects (map (λ (s : Staged). on_wire s.datagram) c.staged) none (none_wired c.staged))
 
 -- an answer that is for a client is no refusal
 pub answering_is_no_refusal : (draw : Draw) (conn : Conn) (kind : Kind) (n : ℕ) (c : Course) (o : Option ℕ) → o ≡ Some n → c.effects ≡ []

@@ -1,6 +1,5 @@
 -- What is prepared for a client stays right as its step goes on.
-use Rattle.std.proofs.Common.{◌≡◌, ℕ, zero, suc, ◌+◌, ◌≤◌, ◌<◌, Bool, true, false, cond, List, [], ◌∷◌, length, slice_get, option_map, Option, Some, None, is_some, refl, sym, ap, subst, ◌∙◌, arith}
-use Rattle.std.specs.Prelude.{unwrap_or}
+use Rattle.std.proofs.Common.{◌≡◌, ℕ, zero, suc, ◌+◌, ◌≤◌, ◌<◌, true, List, [], ◌∷◌, length, slice_get, option_map, Option, Some, None, is_some, refl, sym, ap, subst, ◌∙◌, arith}
 use Rattle.std.proofs.lemmas.Bool.{false≢true}
 use Rattle.vpn_base.specs.declared.address.Addr.{Addr}
 use Rattle.vpn_base.specs.declared.names.Cause.{Cause}
@@ -23,11 +22,11 @@ use Rattle.peer_table.specs.EngineAnswers.{engine_came, kept_name}
 use Rattle.peer_table.specs.Exchange.{NothingReadBefore, all_unread, cipher_of, exchanged}
 use Rattle.peer_table.specs.Peer.{Outcome, Peer}
 use Rattle.peer_table.specs.Places.{changed_at}
-use Rattle.server_table.specs.Courses.{Course, acted, client_changed, with_client}
+use Rattle.server_table.specs.Courses.{Course, acted}
 use Rattle.server_table.specs.Endings.{ended, ended_as, gone, turned}
 use Rattle.server_table.specs.Engine.{asked, asked_by, asked_for, asked_in, asked_once, file_is, gone_on, unread_judged}
 use Rattle.server_table.specs.Establishing.{ccd_in, leased_to, name_in}
-use Rattle.server_table.specs.Exchange.{exchange, exchange_made, messages_taken}
+use Rattle.server_table.specs.Exchange.{exchange, exchange_made}
 use Rattle.server_table.specs.Lookups.{client_here, if_here}
 use Rattle.server_table.specs.Table.{Awaited, Client, Established, FileState, Known, Table, Unasked}
 use Rattle.server_texts.specs.Replies.{AreRepliesTo, Replies}

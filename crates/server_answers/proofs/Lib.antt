@@ -5,6 +5,8 @@ pub mod Stays
 pub mod Followed
 pub mod Room
 pub mod Readied
+pub mod Kept
 pub mod Looked
 pub mod Going
 pub mod Early
+pub mod Filed

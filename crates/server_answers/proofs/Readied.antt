@@ -1,5 +1,5 @@
 -- What is taken ahead leaves a core as it is.
-use Rattle.std.proofs.Common.{◌≡◌, ℕ, zero, suc, ◌+◌, ◌-◌, ◌^◌, ◌<◌, ◌≤◌, Bool, true, false, List, [], ◌∷◌, ◌++◌, length, map, slice_get, option_map, Option, Some, None, is_some, refl, sym, ap, subst, ◌∙◌, arith}
+use Rattle.std.proofs.Common.{◌≡◌, ℕ, zero, suc, ◌+◌, ◌-◌, ◌^◌, ◌<◌, ◌≤◌, Bool, true, false, List, [], ◌∷◌, length, map, slice_get, option_map, Option, Some, None, is_some, refl, sym, ap, subst, ◌∙◌, arith}
 use Rattle.std.specs.Prelude.{unwrap_or, IfOk, MatchResult, OnErr, OnOk, Result, Ok, Err}
 use Rattle.std.specs.List.{AllByRecursion}
 use Rattle.std.proofs.lemmas.Bool.{false≢true}
@@ -22,7 +22,7 @@ use Rattle.server_state.specs.declared.client.ClientState.{ClientState}
 use Rattle.server_state.specs.declared.state.ServerCore.{ServerCore}
 use Rattle.server_state.specs.Core.{AreInTurn, CoreStands, CourseStands, FileStands, GoesOn, IsSoundAhead, NoneIsLater, StateStands, StaysTold}
 use Rattle.server_state.specs.Places.{IsChangedAt, IsThere}
-use Rattle.server_engine.specs.Calls.{IsNamedAt, IsReadyAt, MayExchangeAt, MayExchangeNow}
+use Rattle.server_engine.specs.Calls.{IsNamedAt, IsReadyAt, MayExchangeNow}
 use Rattle.server_answers.specs.internal.Ahead.{IsTurnAt, StaysSame}
 
 -- ---- lists
@@ -181,7 +181,7 @@ module _ {S : Type 0} (means : S → Peer → Type 0) (goes_on : S → Type 0) (
         };
     ahead = λ h.
         subst (λ (k : ServerCore S). IsSoundAhead goes_on count since k) (sym only)
-        (record { sessions = h.sessions; most = h.most; admitted = h.admitted; connections = h.connections; timers = h.timers; no_counts = h.no_counts });
+        (record { sessions = h.sessions; most = h.most; admitted = h.admitted; connections = h.connections; timers = h.timers; no_counts = h.no_counts; late = h.late });
     told = λ moment none. subst (λ (k : ServerCore S). NoneIsLater since moment k) (sym only) none;
     events = ap (λ (k : ServerCore S). k.events) only;
     turn = ap (λ (k : ServerCore S). k.turn) only;
@@ -248,7 +248,7 @@ module _ {S : Type 0} (means : S → Peer → Type 0) (core : ServerCore S) (tur
 
   pub ahead_turned : (goes_on : S → Type 0) (count since : S → ℕ) → IsSoundAhead goes_on count since core → IsSoundAhead goes_on count since (record core { turn = turn })
   ahead_turned goes_on count since h =
-      record { sessions = h.sessions; most = h.most; admitted = h.admitted; connections = h.connections; timers = h.timers; no_counts = h.no_counts }
+      record { sessions = h.sessions; most = h.most; admitted = h.admitted; connections = h.connections; timers = h.timers; no_counts = h.no_counts; late = h.late }
 
 -- the outbox has what it had
 pub outbox_same : {S : Type 0} (means : S → Peer → Type 0) (before : List Action) (core : ServerCore S) (out then : Contents) (c : Course) → CourseStands means before core out c

@@ -119,6 +119,7 @@ fn kept_byte(byte: u8) -> u8
 }
 
 // A name as it is kept.
+#[tactic(auto, using(crate::proofs::Kept::kept_next))]
 fn keep_name(alloc: Global, name: &[u8]) -> Result<Text, NoMemory>
     ensures { IfOk result (λ kept. kept ≡ kept_name name.now) }
 {
@@ -215,11 +216,7 @@ fn name_at<S: ClientSession>(
 }
 
 // A copy of the file of the client at this place.
-fn file_at<S: ClientSession>(
-    core: &ServerCore<S>,
-    alloc: Global,
-    i: usize,
-) -> Result<Ccd, NoMemory>
+fn file_at<S: ClientSession>(core: &ServerCore<S>, alloc: Global, i: usize) -> Result<Ccd, NoMemory>
     requires at { IsTurnAt core.now i }
     ensures { IfOk result (λ file. (t : Table) (x : Client) → CoreStands S.stands core.now t → client_here t core.now.turn.0 ≡ Some x →
         ccd_in x.file ≡ file) }
@@ -237,13 +234,23 @@ pub(crate) fn is_established<S: ClientSession>(core: &ServerCore<S>, i: usize) -
     core.clients.look_at(i).established.is_some()
 }
 
+// Whether the name of a client is known.
+fn is_known<S: ClientSession>(session: &S) -> bool
+    ensures { (p : Peer) → S.stands session.now p → result ≡ is_some p.name }
+{
+    match session.name() {
+        None => false,
+        Some(_) => true,
+    }
+}
+
 // Whether the client at this place has a name.
 fn has_name<S: ClientSession>(core: &ServerCore<S>, i: usize) -> bool
     requires at { IsTurnAt core.now i }
     ensures { (t : Table) (x : Client) → CoreStands S.stands core.now t → client_here t core.now.turn.0 ≡ Some x → result ≡ is_some x.session.name }
 {
     server_state::places_tell_of_clients::<S>();
-    core.clients.look_at(i).session.name().is_some()
+    is_known(&core.clients.look_at(i).session)
 }
 
 /// Prepares the client at this place for what may follow an answer of the engine: to establish it, or to write the

@@ -28,6 +28,7 @@ use vpn_links::{Kind, Note, Outbox};
 
 // The engine has text for the other end, on a connection of the client at this place. After want of memory nothing
 // has changed.
+#[tactic(auto, using(crate::proofs::Readied::stays_itself, crate::proofs::Readied::stays_on))]
 fn text_answered<S: ClientSession + Drop>(
     core: &mut ServerCore<S>,
     i: usize,
@@ -103,6 +104,7 @@ fn plain_ready<S: ClientSession + Drop>(
 
 // The engine has plain text or a name on a connection of the client at this place. After want of memory nothing
 // has changed.
+#[tactic(auto, using(crate::proofs::Readied::stays_itself, crate::proofs::Readied::stays_on))]
 fn plain_answered<S: ClientSession + Drop>(
     core: &mut ServerCore<S>,
     alloc: Global,
@@ -130,6 +132,7 @@ fn plain_answered<S: ClientSession + Drop>(
     plain_ready(core, alloc, draw, i, kind, room, out)
 }
 
+// Whether the engine has text for the other end.
 fn is_text(kind: &Kind) -> bool
     ensures { result ≡ is_text kind.now }
 {

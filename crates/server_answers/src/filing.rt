@@ -1,7 +1,6 @@
 //! Answers for clients' files.
 
 ghost use Rattle.std.specs.Prelude.{◌≡◌, ◌≤◌, ◌-◌, ◌^◌, [], Bool, List, ℕ, None, Option, Some, false, OnOk, OnErr, MatchResult};
-
 ghost use Rattle.vpn_links.specs.Actions.{Action, Holds};
 ghost use Rattle.peer_table.specs.Outboxes.{HasRoom};
 ghost use Rattle.server_table.specs.Courses.{Course, outs};
@@ -27,6 +26,7 @@ use std::alloc::Global;
 use vpn_base::{Cid, Draw, NoMemory};
 use vpn_links::{FileAnswer, Kind, Note, Outbox};
 
+// Whether a file is waited for.
 fn awaits(file: &ClientFile) -> bool
     ensures { (name : Option (List ℕ)) (s : FileState) → FileStands name file.now s → result ≡ awaits s }
 {
@@ -51,6 +51,7 @@ fn is_waited_for<S: ClientSession>(core: &ServerCore<S>, cid: Cid) -> bool
 
 // The client at this place, which may make its key exchange, has this file, and goes on with it. After want of
 // memory nothing has changed.
+#[tactic(auto, using(crate::proofs::Readied::stays_itself))]
 fn file_ready<S: ClientSession + Drop>(
     core: &mut ServerCore<S>,
     alloc: Global,
@@ -98,6 +99,7 @@ fn file_ready<S: ClientSession + Drop>(
 }
 
 // The client whose turn it is has this file, and goes on with it. After want of memory nothing has changed.
+#[tactic(auto, using(crate::proofs::Readied::stays_itself))]
 fn file_known<S: ClientSession + Drop>(
     core: &mut ServerCore<S>,
     alloc: Global,
@@ -125,14 +127,17 @@ fn file_known<S: ClientSession + Drop>(
         cid,
         answer: FileAnswer::Missing,
     };
-    match make_ready(core, i, &kind) {
-        Ok(_) => {}
+    let room = match make_ready(core, i, &kind) {
+        Ok(room) => room,
         Err(NoMemory) => return Err(NoMemory),
-    }
+    };
+    // A key exchange takes the room that is reserved for it.
+    let _ = room;
     file_ready(core, alloc, draw, i, file, out)
 }
 
 // The client whose turn it is waits for its file, and has this answer. After want of memory nothing has changed.
+#[tactic(auto, using(crate::proofs::Readied::stays_itself))]
 fn file_given<S: ClientSession + Drop>(
     core: &mut ServerCore<S>,
     alloc: Global,

@@ -9,7 +9,7 @@ use server_establishing::Prepared;
 use vpn_base::NoMemory;
 use vpn_links::Outbox;
 
-// No memory has more room than a usize can say.
+// A sum; no memory has more room than a usize can say.
 fn sum(first: usize, last: usize) -> Result<usize, NoMemory>
     ensures { IfOk result (λ n. n ≡ first + last) }
 {
@@ -19,6 +19,7 @@ fn sum(first: usize, last: usize) -> Result<usize, NoMemory>
     }
 }
 
+// A product.
 fn product(first: usize, last: usize) -> Result<usize, NoMemory>
     ensures { IfOk result (λ n. n ≡ first * last) }
 {

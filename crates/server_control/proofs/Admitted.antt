@@ -79,6 +79,7 @@ reserved_sound goes_on count since core ct same h = record {
   connections = h.connections;
   timers = h.timers;
   no_counts = h.no_counts;
+  late = h.late;
 }
 
 -- ---- what holds of the core
@@ -114,6 +115,7 @@ module _ {S : Type 0} (goes_on : S → Type 0) (count since : S → ℕ) (core :
     connections = opened_few;
     timers = h.timers;
     no_counts = h.no_counts;
+    late = h.late;
   }
 
   sound_but : table.place_of turn.0 (entries_of core.clients ++ e ∷ []) ≡ Some (length (entries_of core.clients)) → IsSoundBut goes_on count since turn.0 after
@@ -127,6 +129,7 @@ module _ {S : Type 0} (goes_on : S → Type 0) (count since : S → ℕ) (core :
     connections = opened_few;
     timers = h.timers;
     no_counts = h.no_counts;
+    late = h.late;
   }
 
   -- the client has taken its first packet

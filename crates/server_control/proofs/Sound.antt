@@ -67,7 +67,7 @@ one_opened connections events k one counted few = omega (arith, one, counted, fe
 
 into_last : {S : Type 0} {goes_on : S → Type 0} {count since : S → ℕ} {core : ServerCore S} → IsSound goes_on count since core → (last : Option (Cid × ℕ))
     → IsSound goes_on count since (record core { last_taken = last })
-into_last s last = record { sessions = s.sessions; most = s.most; admitted = s.admitted; connections = s.connections; timers = s.timers; no_counts = s.no_counts }
+into_last s last = record { sessions = s.sessions; most = s.most; admitted = s.admitted; connections = s.connections; timers = s.timers; no_counts = s.no_counts; late = s.late }
 
 module _ {S : Type 0} (goes_on : S → Type 0) (count since : S → ℕ) (core : ServerCore S) (i : ℕ) (v : ClientState S)
     (there : option_map (λ e. e.value) (slice_get (entries_of core.clients) i) ≡ Some v) (counted : 1 ≤ core.events) (h : IsSoundAhead goes_on count since core) where
@@ -94,6 +94,7 @@ module _ {S : Type 0} (goes_on : S → Type 0) (count since : S → ℕ) (core :
       connections = h.connections;
       timers = h.timers;
       no_counts = h.no_counts;
+      late = h.late;
     }
 
     -- the session was told no later moment
@@ -122,6 +123,7 @@ module _ {S : Type 0} (goes_on : S → Type 0) (count since : S → ℕ) (core :
         connections = one_opened core.connections core.events k one counted h.connections;
         timers = h.timers;
         no_counts = h.no_counts;
+        late = h.late;
       }
 
       module _ (n : ℕ) (place : table.place_of n (entries_of core.clients) ≡ Some i) where
@@ -139,6 +141,7 @@ module _ {S : Type 0} (goes_on : S → Type 0) (count since : S → ℕ) (core :
           connections = one_opened core.connections core.events k one counted h.connections;
           timers = h.timers;
           no_counts = h.no_counts;
+          late = h.late;
         }
 
     -- a session has answered
@@ -150,5 +153,5 @@ module _ {S : Type 0} (goes_on : S → Type 0) (count since : S → ℕ) (core :
     sound_after (Ok Named) k last goes more later one place = into_last (sound_on more later k one goes) last
     sound_after (Ok Exchange) k last goes more later one place = into_last (sound_on more later k one goes) last
     sound_after (Ok (Over cause)) k last goes more later one place =
-        let s = sound_but more later k one core.turn.0 place in record { sessions = s.sessions; most = s.most; admitted = s.admitted; connections = s.connections; timers = s.timers; no_counts = s.no_counts }
+        let s = sound_but more later k one core.turn.0 place in record { sessions = s.sessions; most = s.most; admitted = s.admitted; connections = s.connections; timers = s.timers; no_counts = s.no_counts; late = s.late }
     sound_after (Err refused) k last goes more later one place = into_last (sound_on more later k one goes) last

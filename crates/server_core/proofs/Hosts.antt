@@ -3,23 +3,26 @@ use Rattle.std.proofs.Common.{◌≡◌, ℕ, Bool, true, false, List, [], ◌�
 use Rattle.std.specs.Prelude.{◌&&◌, ◌||◌, ◌==◌, not, nat_le, if◌then◌else◌}
 use Rattle.std.specs.Str.{bytes_eq}
 use Rattle.std.specs.List.{list_any}
+use Rattle.std.proofs.lemmas.Bool.{false≢true}
 use Rattle.std.proofs.lemmas.List.Folds.{list_any-append}
 use Rattle.vpn_base.specs.declared.address.Addr.{Addr}
 use Rattle.vpn_base.specs.declared.address.Ip4.{Ip4}
 use Rattle.vpn_base.specs.declared.names.Draw.{Draw}
 use Rattle.vpn_base.specs.declared.names.Malformed.{Malformed}
 use Rattle.vpn_links.specs.Actions.{Action, on_wire}
+use Rattle.vpn_links.specs.declared.notes.Note.TheVariants as notes
 use Rattle.vpn_links.specs.declared.events.Kind.{Kind}
 use Rattle.vpn_links.specs.declared.events.Kind.TheVariants.{DeviceIn, DeviceReady, EngineDown, EnginePlain, EngineText, EngineUp, File, Halt, Line, Tick}
 use Rattle.vpn_links.specs.declared.events.Kind.TheVariants as kinds
 use Rattle.opcode_codec.specs.ControlText.{ControlForm, control_of}
-use Rattle.opcode_codec.specs.Packet.{DataForm, PacketForm, Inner, Wrapped, packet_of}
+use Rattle.opcode_codec.specs.DataPacket.{DataForm}
+use Rattle.opcode_codec.specs.Packet.{PacketForm, Inner, Wrapped, packet_of}
 use Rattle.opcode_codec.specs.declared.opcodes.Opcode.{Opcode}
 use Rattle.tls_crypt.specs.Packets.{Packet}
 use Rattle.tls_crypt.specs.Unwrapping.{unwrapping}
-use Rattle.ip_packets.specs.Addresses.{source}
-use Rattle.inner_verdict.specs.declared.verdict.Verdict.{Verdict}
-use Rattle.inner_verdict.specs.declared.verdict.Verdict.TheVariants.{BadSource, Multicast, NoRoute, NotIp, ToClient, ToDevice, TooLong}
+use Rattle.ip_packets.specs.Inner.{source}
+use Rattle.inner_verdict.specs.declared.Verdict.{Verdict}
+use Rattle.inner_verdict.specs.declared.Verdict.TheVariants.{BadSource, Multicast, NoRoute, NotIp, ToClient, ToDevice, TooLong}
 use Rattle.packet_ids.specs.declared.sending.Spent.{Spent}
 use Rattle.peer_table.specs.DataPackets as packets
 use Rattle.peer_table.specs.Peer.{Outcome, Peer}
@@ -29,6 +32,7 @@ use Rattle.server_table.specs.ControlDatagrams as control
 use Rattle.server_table.specs.Courses.{Course, Staged, did, outs, reported}
 use Rattle.server_table.specs.DataDatagrams as data_packets
 use Rattle.server_table.specs.InnerPackets as inner_packets
+use Rattle.server_table.specs.Lookups.{client_here}
 use Rattle.server_table.specs.InnerPackets.{learned, queued, sealed_to}
 use Rattle.server_table.specs.Runs.{is_not_learned}
 use Rattle.server_table.specs.Step.{came, datagram_as}
@@ -43,7 +47,7 @@ or_right true b is = refl
 or_right false b is = is
 
 -- it is reported that a host was not learned
-abbrev IsTold : List Action → Type 0
+abbrev pub IsTold : List Action → Type 0
 IsTold effects = list_any is_not_learned effects ≡ true
 
 told_first : (done more : List Action) → IsTold done → IsTold (done ++ more)
@@ -54,7 +58,7 @@ told_last done action is =
     list_any-append is_not_learned done (action ∷ []) ∙ or_right (list_any is_not_learned done) (list_any is_not_learned (action ∷ [])) (or_left (is_not_learned action) false is)
 
 -- two courses are one, or the first has reported that a host was not learned
-data IsAlike (a b : Course) : Type 0 where
+pub data IsAlike (a b : Course) : Type 0 where
   Same : a ≡ b → IsAlike a b
   Told : IsTold a.effects → IsAlike a b
 
@@ -62,7 +66,7 @@ data IsAlike (a b : Course) : Type 0 where
 
 sealed_told : (n : ℕ) (inner : List ℕ) (c : Course) → IsTold c.effects → IsTold (sealed_to n inner c).effects
 unfolding sealed_to
-sealed_told n inner c told = for_client (inner_packets.client_here c.table n)
+sealed_told n inner c told = for_client (client_here c.table n)
   where
     answer_by : (x : Client) (peer : Peer) (answer : Result (List ℕ) Spent) → IsTold (inner_packets.sealed_as n x c peer answer).effects
     answer_by x peer (Ok datagram) = told_first c.effects _ told
@@ -147,7 +151,8 @@ module _ (from : Addr) (bytes : List ℕ) where
   control_same draw op c = unwrapped _
     where
       wrapped_same : (r : control.ControlPacket) (zero_id : Bool)
-          → (if zero_id then reported _ c else control.admitted (wire true) draw r c) ≡ (if zero_id then reported _ c else control.admitted (wire false) draw r c)
+          → (if zero_id then reported (notes.Replayed r.packet.time r.packet.id) c else control.admitted (wire true) draw r c)
+          ≡ (if zero_id then reported (notes.Replayed r.packet.time r.packet.id) c else control.admitted (wire false) draw r c)
       wrapped_same r true = refl
       wrapped_same r false = refl
 
@@ -197,4 +202,5 @@ hosts_alone_lack draw kind c none = answer_by (came_alike draw kind c)
   where
     answer_by : IsAlike (came true draw kind c) (came false draw kind c) → came true draw kind c ≡ came false draw kind c
     answer_by (Same is) = is
-    answer_by (Told told) = absurd (cc (none, told_first _ (map (λ (s : Staged). on_wire s.datagram) (came true draw kind c).staged) told))
+    answer_by (Told told) =
+        absurd (false≢true (sym none ∙ told_first (came true draw kind c).effects (map (λ (s : Staged). on_wire s.datagram) (came true draw kind c).staged) told))

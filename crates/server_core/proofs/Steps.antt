@@ -106,9 +106,9 @@ one_before : (n : ℕ) → (n + 1) - 1 ≡ n
 one_before n = grind arith
 
 pub sound_ahead : {S : Type 0} (goes_on : S → Type 0) (count since : S → ℕ) (core : ServerCore S) → IsSound goes_on count since core → core.events + 1 ≤ 2 ^ 48
-    → (moment : Moment) → core.moment.0 ≤ moment.0 → (turn : Cid)
+    → (moment : Moment) → core.moment.0 ≤ moment.0 → moment.0 ≤ 2 ^ 52 → (turn : Cid)
     → IsSoundAhead goes_on count since (record core { moment = moment; events = core.events + 1; last_taken = None; turn = turn; mark = 0 })
-sound_ahead {S = S} goes_on count since core h few moment later turn =
+sound_ahead {S = S} goes_on count since core h few moment later most turn =
     let begun = λ (n : ℕ). record core { moment = moment; events = n; last_taken = None; turn = turn; mark = 0 } in
     subst (λ (n : ℕ). IsSound goes_on count since (begun n)) (sym (one_before core.events)) (record {
       sessions = all_later goes_on count since (core.events + 1) core.moment.0 moment.0 later (entries_of core.clients) h.sessions;
@@ -117,4 +117,5 @@ sound_ahead {S = S} goes_on count since core h few moment later turn =
       connections = h.connections;
       timers = h.timers;
       no_counts = h.no_counts;
+      late = most;
     })

@@ -1,19 +1,23 @@
 -- A step, from where it begins to where its control datagrams stand behind its effects.
-use Rattle.std.proofs.Common.{◌≡◌, ℕ, Bool, true, false, List, [], ◌∷◌, ◌++◌, map, refl, sym, ap, subst, ◌∙◌}
+use Rattle.std.proofs.Common.{◌≡◌, ℕ, ◌+◌, ◌≤◌, Bool, true, false, List, [], ◌∷◌, ◌++◌, map, refl, sym, ap, subst, ◌∙◌}
 use Rattle.std.specs.Prelude.{◌||◌, IsTrue, IsFalse}
-use Rattle.std.specs.List.{list_any}
+use Rattle.std.specs.List.{AllByRecursion, list_any}
 use Rattle.std.proofs.lemmas.Bool.{false≢true}
 use Rattle.std.proofs.lemmas.List.{append_assoc}
 use Rattle.vpn_links.specs.Actions.{Action, Contents, Datagram, Holds, on_wire}
 use Rattle.vpn_links.specs.Steps.{Lack, LacksAll, LacksHost, Stepped}
 use Rattle.vpn_links.specs.declared.events.Event.{Event}
+use Rattle.client_table.specs.declared.table.ClientTable.{ClientTable}
+use Rattle.client_table.specs.Entries.{Entry}
+use Rattle.client_table.specs.Tables.{entries_of}
 use Rattle.peer_table.specs.Peer.{Peer}
 use Rattle.server_table.specs.Courses.{Course, Staged, outs}
 use Rattle.server_table.specs.Runs.{MayLack, is_free, is_free_kind, is_not_learned, is_refusal, needs_host}
 use Rattle.server_table.specs.Step.{came, course_begun, is_over, step, step_if}
 use Rattle.server_table.specs.Table.{Table}
+use Rattle.server_state.specs.declared.client.ClientState.{ClientState}
 use Rattle.server_state.specs.declared.state.ServerCore.{ServerCore}
-use Rattle.server_state.specs.Core.{CoreStands, CourseStands}
+use Rattle.server_state.specs.Core.{CoreStands, CourseStands, GoesOn, IsSound, NoneIsLater}
 use Rattle.server_core.specs.Steps.{next_table, told_of}
 use Rattle.server_core.proofs.Hosts.{hosts_alone_lack}
 
@@ -36,7 +40,7 @@ module _ {S : Type 0} (means : S → Peer → Type 0) (before : List Action) (co
   told c h =
       let wires : map on_wire out.staged ≡ map (λ (s : Staged). on_wire s.datagram) c.staged = ap (map on_wire) h.outbox.1 ∙ wired c.staged in
       let all : out.effects ++ map on_wire out.staged ≡ (before ++ c.effects) ++ map (λ (s : Staged). on_wire s.datagram) c.staged =
-          ap (λ (es : List Action). es ++ map on_wire out.staged) h.outbox.0 ∙ ap (λ (ws : List Action). (before ++ c.effects) ++ ws) wires in
+      ap (λ (es : List Action). es ++ map on_wire out.staged) h.outbox.0 ∙ ap (λ (ws : List Action). (before ++ c.effects) ++ ws) wires in
       (moved.0 ∙ all ∙ append_assoc before c.effects (map (λ (s : Staged). on_wire s.datagram) c.staged), moved.1)
 
   module _ (t : Table) (event : Event) (goes : is_over t ≡ false) where
@@ -50,7 +54,7 @@ module _ {S : Type 0} (means : S → Peer → Type 0) (before : List Action) (co
     needed true needs h = answer_by true (λ _. needs) h
     needed false none h =
         let same : came true event.draw event.kind (course_begun t event) ≡ came false event.draw event.kind (course_begun t event) =
-            hosts_alone_lack event.draw event.kind (course_begun t event) (ap (λ (c : Course). list_any is_not_learned (outs c)) (step_is true t event goes) ∙ none) in
+        hosts_alone_lack event.draw event.kind (course_begun t event) (ap (λ (c : Course). list_any is_not_learned (outs c)) (step_is true t event goes) ∙ none) in
         answer_by false (λ is. absurd (false≢true is))
         (subst (CourseStands means before core out) (sym (step_is true t event goes) ∙ same ∙ step_is false t event goes) h)
 
@@ -87,3 +91,16 @@ stopped means core out t event over h staged =
       stands = subst (λ (c : Course). CoreStands means core c.table) is h;
       told = (sym (append_none out.effects) ∙ ap (λ (c : Course). out.effects ++ outs c) is, staged);
     }
+
+-- ---- what sessions were told before
+
+none_of : {S : Type 0} (goes_on : S → Type 0) (count since : S → ℕ) (most moment : ℕ) (es : List (Entry (ClientState S)))
+    → AllByRecursion (GoesOn goes_on count since most moment) es → AllByRecursion (λ (e : Entry (ClientState S)). since e.value.session ≤ moment) es
+none_of goes_on count since most moment [] all = tt
+none_of goes_on count since most moment (e ∷ es) all = (all.0.past, none_of goes_on count since most moment es all.1)
+
+pub none_begun : {S : Type 0} (goes_on : S → Type 0) (count since : S → ℕ) (core begun : ServerCore S) → IsSound goes_on count since core → begun.clients ≡ core.clients
+    → NoneIsLater since core.moment.0 begun
+none_begun goes_on count since core begun sound same =
+    subst (λ (clients : ClientTable (ClientState _)). AllByRecursion (λ (e : Entry (ClientState _)). since e.value.session ≤ core.moment.0) (entries_of clients)) (sym same)
+    (none_of goes_on count since (core.events + 1) core.moment.0 (entries_of core.clients) sound.sessions)

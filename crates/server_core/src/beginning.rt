@@ -34,8 +34,8 @@ pub fn begin<S: ClientSession>(core: &mut ServerCore<S>, now: Moment, turn: Cid)
     requires { core.old.events + 1 ≤ 2 ^ 48 }
     ensures begun { (before : List Action) (t : Table) (event : Event) (out : Contents) → CoreStands S.stands core.old t → event.now ≡ now →
         out.effects ≡ before → out.staged ≡ [] → CourseStands S.stands before core.new out (definitions.course_begun t event) }
-    ensures sound { core.old.moment.0 ≤ 2 ^ 52 → IsSound S.goes_on S.count S.since core.old → IsSoundAhead S.goes_on S.count S.since core.new }
-    ensures late { core.new.moment.0 ≤ 2 ^ 52 }
+    ensures sound { IsSound S.goes_on S.count S.since core.old → IsSoundAhead S.goes_on S.count S.since core.new }
+    ensures events { core.new.events ≡ core.old.events + 1 }
     ensures turn { core.new.turn ≡ turn }
     ensures mark { core.new.mark ≡ 0 }
     ensures clients { core.new.clients ≡ core.old.clients }
@@ -52,6 +52,7 @@ pub fn halt<S: ClientSession>(core: &mut ServerCore<S>, out: &mut Outbox)
     requires room { HasRoom out.old 1 0 }
     ensures halted { (before : List Action) (c : Course) → CourseStands S.stands before core.old out.old c →
         CourseStands S.stands before core.new out.new (definitions.halted c) }
+    ensures sound { IsSound S.goes_on S.count S.since core.old → IsSound S.goes_on S.count S.since core.new }
     ensures uses { Uses out.old out.new 1 0 }
 {
     core.is_stopped = true;

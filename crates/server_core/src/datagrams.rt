@@ -55,7 +55,16 @@ fn control_came<S: ClientSession + Drop>(
     ensures length { length buffer.new ≡ length buffer.old }
 {
     copy_in(bytes, buffer);
-    control_arrived(core, alloc, from, draw, op, kind, &mut buffer[..bytes.len()], out)
+    control_arrived(
+        core,
+        alloc,
+        from,
+        draw,
+        op,
+        kind,
+        &mut buffer[..bytes.len()],
+        out,
+    )
 }
 
 fn first_of(datagram: &[u8]) -> Option<u8>

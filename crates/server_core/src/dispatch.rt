@@ -1,6 +1,6 @@
 //! Each event goes to its handler.
 
-ghost use Rattle.std.specs.Prelude.{◌≡◌, ◌≤◌, ◌^◌, [], Bool, List, false, IfOk, OnOk, OnErr, MatchResult};
+ghost use Rattle.std.specs.Prelude.{◌≡◌, ◌≤◌, ◌^◌, [], Bool, List, length, false, IfOk, OnOk, OnErr, MatchResult};
 ghost use Rattle.vpn_links.specs.Actions.{Action, Holds};
 ghost use Rattle.vpn_links.specs.Rounds.{IsOfLine};
 ghost use Rattle.peer_table.specs.Outboxes.{HasRoom};
@@ -110,7 +110,9 @@ pub(crate) fn came<S: ClientSession + Drop>(
             )
         }
         Kind::EngineText { conn, .. } => told(engine_answered(core, alloc, draw, *conn, kind, out)),
-        Kind::EnginePlain { conn, .. } => told(engine_answered(core, alloc, draw, *conn, kind, out)),
+        Kind::EnginePlain { conn, .. } => told(engine_answered(
+            core, alloc, draw, *conn, kind, out,
+        )),
         Kind::EngineUp { conn, .. } => told(engine_answered(core, alloc, draw, *conn, kind, out)),
         Kind::EngineDown { conn } => told(engine_down(core, *conn, out)),
         Kind::DeviceIn { bytes } => {

@@ -6,5 +6,6 @@ mod datagrams;
 mod dispatch;
 mod lines;
 mod server;
+mod taking;
 
-pub use server::Server;
+pub use server::{EventCore, Server};

@@ -80,6 +80,7 @@ key_sound goes_on count since core ct f o has sound = record {
   connections = sound.connections;
   timers = sound.timers;
   no_counts = sound.no_counts;
+  late = sound.late;
 }
   where
     at : (o : Option ℕ) → AllByRecursion (GoesOn goes_on count since (core.events + 1) core.moment.0) (table.changed_where o (table.with_key f) (entries_of core.clients))

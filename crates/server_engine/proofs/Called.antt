@@ -176,6 +176,7 @@ module _ {S : Type 0} (core : ServerCore S) (n i : ℕ) (v w : ClientState S) (c
     connections = h.connections;
     timers = h.timers;
     no_counts = h.no_counts;
+    late = h.late;
   }
 
 some_mapped : {A B : Type 0} (f : A → B) (o : Option A) → is_some (option_map f o) ≡ is_some o

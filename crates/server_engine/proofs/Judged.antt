@@ -47,6 +47,7 @@ sound_but goes_on count since n core h = record {
   connections = h.connections;
   timers = h.timers;
   no_counts = h.no_counts;
+  late = h.late;
 }
 
 goes_for : {S : Type 0} (goes_on : S → Type 0) (o : Option (Entry (ClientState S))) (v : ClientState S) → ((e : Entry (ClientState S)) → o ≡ Some e → goes_on e.value.session)

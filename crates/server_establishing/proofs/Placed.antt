@@ -202,6 +202,7 @@ module _ {S : Type 0} (means : S → Peer → Type 0) (core : ServerCore S) (m i
     connections = h.connections;
     timers = h.timers;
     no_counts = h.no_counts;
+    late = h.late;
   }
 
   -- what two changes one behind the other come to
@@ -240,4 +241,5 @@ sound_but goes_on count since n core h = record {
   connections = h.connections;
   timers = h.timers;
   no_counts = h.no_counts;
+  late = h.late;
 }

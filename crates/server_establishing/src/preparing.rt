@@ -11,7 +11,7 @@ ghost use Rattle.server_state.specs.Core.{CoreStands, CourseStands, IsSound};
 ghost use Rattle.server_establishing.specs.Ahead.{IsMadeFor, RepliesStand, held_for, lease_of};
 
 use crate::ahead::{Ahead, LeaseAhead};
-use crate::taking::{hold_address, give_back_held};
+use crate::taking::{give_back_held, hold_address};
 use ccd_files::Ccd;
 use peer_table::ClientSession;
 use route_table::RouteTable;

@@ -19,4 +19,5 @@ sound_counted goes_on count since core h = record {
   connections = omega (arith, h.connections);
   timers = h.timers;
   no_counts = h.no_counts;
+  late = h.late;
 }

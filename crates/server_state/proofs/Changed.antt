@@ -189,4 +189,5 @@ sound_changed goes_on count since core ct i v w sound there goes same later is =
   connections = sound.connections;
   timers = sound.timers;
   no_counts = sound.no_counts;
+  late = sound.late;
 }

@@ -126,6 +126,7 @@ pub record IsSound {S : Type 0} (goes_on : S → Type 0) (count since : S → �
   pub connections : core.connections ≤ 2 ^ 13 * core.events
   pub timers : AreTimersFor core.settings.timers
   pub no_counts : core.count_interval ≡ 0
+  pub late : core.moment.0 ≤ 2 ^ 52
 
 -- no session was told a moment behind this one
 abbrev pub NoneIsLater : {S : Type 0} → (S → ℕ) → ℕ → ServerCore S → Type 0

@@ -22,6 +22,7 @@ pub record IsSoundBut {S : Type 0} (goes_on : S → Type 0) (count since : S →
   pub connections : core.connections ≤ 2 ^ 13 * core.events
   pub timers : AreTimersFor core.settings.timers
   pub no_counts : core.count_interval ≡ 0
+  pub late : core.moment.0 ≤ 2 ^ 52
 
 -- the control datagrams that are staged, without those of a client, whose turn it is or not
 abbrev pub left_out : Bool → ℕ → List Datagram → List Datagram

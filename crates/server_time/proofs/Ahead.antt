@@ -1,6 +1,7 @@
 -- What holds of every core, before and after memory is taken for an event that counts already.
 use Rattle.std.proofs.Common.{◌≡◌, ℕ, ◌+◌, ◌-◌, ◌*◌, ◌^◌, ◌≤◌, Bool, List, [], ◌∷◌, length, sym, ap, subst, ◌∙◌, arith}
 use Rattle.std.specs.List.{AllByRecursion}
+use Rattle.vpn_base.specs.declared.names.Moment.{Moment}
 use Rattle.vpn_links.specs.Actions.{Action, Contents, Datagram, Holds}
 use Rattle.vpn_links.specs.declared.events.Kind.{Kind}
 use Rattle.client_table.specs.Entries.{Entry}
@@ -27,15 +28,16 @@ more_go_on goes_on count since few most moment e more h = record { session = h.s
 -- what holds of a core, where it holds of its clients and its numbers
 is_sound : {S : Type 0} (goes_on : S → Type 0) (count since : S → ℕ) (core : ServerCore S)
     → AllByRecursion (GoesOn goes_on count since (core.events + 1) core.moment.0) (entries_of core.clients) → most_of core.clients ≤ 4096
-    → admitted_by core.clients ≤ core.events → core.connections ≤ 2 ^ 13 * core.events → AreTimersFor core.settings.timers → core.count_interval ≡ 0
+    → admitted_by core.clients ≤ core.events → core.connections ≤ 2 ^ 13 * core.events → AreTimersFor core.settings.timers → core.count_interval ≡ 0 → core.moment.0 ≤ 2 ^ 52
     → IsSound goes_on count since core
-is_sound goes_on count since core sessions most admitted connections timers no_counts = record {
+is_sound goes_on count since core sessions most admitted connections timers no_counts late = record {
   sessions = sessions;
   most = most;
   admitted = admitted;
   connections = connections;
   timers = timers;
   no_counts = no_counts;
+  late = late;
 }
 
 -- ---- lists
@@ -108,18 +110,21 @@ module _ {S : Type 0} (goes_on : S → Type 0) (count since : S → ℕ) (before
     no_counts_after : after.count_interval ≡ 0
     no_counts_after = ap (λ (core : ServerCore S). core.count_interval) s.others ∙ h.no_counts
 
+    late_after : after.moment.0 ≤ 2 ^ 52
+    late_after = subst (λ (moment : Moment). moment.0 ≤ 2 ^ 52) (sym (ap (λ (core : ServerCore S). core.moment) s.others)) h.late
+
     -- memory was taken, and nothing was done
     pub still_ahead : IsSoundAhead goes_on count since after
     still_ahead =
         is_sound goes_on count since (record after { events = after.events - 1 }) (sessions_after (after.events - 1 + 1) (omega (arith, events_same))) most_after
         (omega (arith, h.admitted, s.admitted, events_same)) (omega (arith, h.connections, connections_same, events_same))
-        timers_after no_counts_after
+        timers_after no_counts_after late_after
 
     pub sound_now : IsSound goes_on count since after
     sound_now =
         is_sound goes_on count since after (sessions_after (after.events + 1) (omega (arith, events_same))) most_after
         (omega (arith, h.admitted, s.admitted, events_same)) (omega (arith, h.connections, connections_same, events_same))
-        timers_after no_counts_after
+        timers_after no_counts_after late_after
 
     none_next : (staged : List Datagram) (turn : ℕ) → staged ≡ [] → IsNext staged turn 0
     none_next staged turn none = subst (λ staged. IsNext staged turn 0) (sym none) tt

@@ -75,6 +75,7 @@ module _ {S : Type 0} (goes_on : S → Type 0) (count since : S → ℕ) (core :
     connections = connections;
     timers = h.sound.timers;
     no_counts = h.sound.no_counts;
+    late = h.sound.late;
   }
 
   other : (j : ℕ) (e : Entry (ClientState S)) → slice_get (entries_of ct) j ≡ Some e → (place_of n (entries_of ct) ≡ Some j → ⊥)
@@ -95,6 +96,7 @@ module _ {S : Type 0} (goes_on : S → Type 0) (count since : S → ℕ) (core :
     connections = connections;
     timers = h.sound.timers;
     no_counts = h.sound.no_counts;
+    late = h.sound.late;
   }
 
 -- what holds of a session that is there

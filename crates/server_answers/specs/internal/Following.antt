@@ -1,12 +1,11 @@
 -- What follows an answer of the engine.
-use Rattle.std.specs.Prelude.{◌≡◌, ◌≤◌, ℕ, ◌+◌, Option, Some, None}
+use Rattle.std.specs.Prelude.{◌≤◌, ℕ, ◌+◌, Option, Some, None}
 use Rattle.vpn_base.specs.declared.names.Cipher.{Cipher}
 use Rattle.peer_table.specs.declared.outcomes.Turn.{Turn}
 use Rattle.peer_table.specs.declared.outcomes.Turn.TheVariants as turns
 use Rattle.peer_table.specs.Exchange.{all_unread, cipher_of}
 use Rattle.server_table.specs.Courses.{Course}
-use Rattle.server_table.specs.Table.{Client, FileState}
-use Rattle.server_table.specs.Table as files
+use Rattle.server_table.specs.Table.{Client}
 use Rattle.server_engine.specs.Rests.{NameFitsFor}
 use Rattle.server_establishing.specs.declared.asking.Prepared.{Prepared}
 use Rattle.server_establishing.specs.Prepared.{IsPrepared, prepared_bytes, prepared_effects}

@@ -17,4 +17,4 @@ returns g c =
     c.copy_known.result c.copy_known.ensures
     (λ file of t x h there.
     sym (of x.session.name x.file
-    (file_stands means core t n c.args.i (c.places_tell_of_clients.ensures.there core t n c.args.i h c.requires.place) c.look_at.result.now c.look_at.ensures x there)))
+    (file_stands means core t n c.args.i (c.places_tell_of_clients.ensures.there core t n c.args.i h c.requires.at.place) c.look_at.result.now c.look_at.ensures x there)))

@@ -1,4 +1,3 @@
-use Rattle.std.proofs.Common.{ap, is_some, ◌∙◌}
 use Rattle.server_answers.proofs.Looked.{state_at}
 use Rattle.server_answers.proofs.ahead.has_name.Goals as goal
 
@@ -6,6 +5,5 @@ pub returns : goal.returns
 returns g c t x h there =
     let core = c.args.core.now in
     let n = core.turn.0 in
-    c.is_some.ensures
-    ∙ ap is_some (c.name.ensures x.session
-    (state_at g.S.ClientSession.stands core t n c.args.i (c.places_tell_of_clients.ensures.there core t n c.args.i h c.requires.place) c.look_at.result.now c.look_at.ensures x there).session)
+    c.is_known.ensures x.session
+    (state_at g.S.ClientSession.stands core t n c.args.i (c.places_tell_of_clients.ensures.there core t n c.args.i h c.requires.at.place) c.look_at.result.now c.look_at.ensures x there).session

@@ -7,4 +7,4 @@ returns g c t x h there =
     let core = c.args.core.now in
     let n = core.turn.0 in
     c.is_some.ensures
-    ∙ established_is g.S.ClientSession.stands core t n c.args.i (c.places_tell_of_clients.ensures.there core t n c.args.i h c.requires.place) c.look_at.result.now c.look_at.ensures x there
+    ∙ established_is g.S.ClientSession.stands core t n c.args.i (c.places_tell_of_clients.ensures.there core t n c.args.i h c.requires.at.place) c.look_at.result.now c.look_at.ensures x there

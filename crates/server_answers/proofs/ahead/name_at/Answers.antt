@@ -17,4 +17,4 @@ returns g c =
     (λ name. (t : Table) (x : Client) → CoreStands means core t → client_here t n ≡ Some x → NameAhead c.args.kind.now name x.session x.session.name)
     c.name_ahead.result c.name_ahead.ensures
     (λ name of t x h there.
-    of x.session (state_at means core t n c.args.i (c.places_tell_of_clients.ensures.there core t n c.args.i h c.requires.place) c.look_at.result.now c.look_at.ensures x there).session)
+    of x.session (state_at means core t n c.args.i (c.places_tell_of_clients.ensures.there core t n c.args.i h c.requires.at.place) c.look_at.result.now c.look_at.ensures x there).session)

@@ -17,4 +17,4 @@ returns g c =
     (λ left. (t : Table) (x : Client) → CoreStands means core t → client_here t n ≡ Some x → all_unread x.session.sessions + c.args.more ≤ left)
     c.unread_with.result c.unread_with.ensures
     (λ left of t x h there.
-    of x.session (state_at means core t n c.args.i (c.places_tell_of_clients.ensures.there core t n c.args.i h c.requires.place) c.look_at.result.now c.look_at.ensures x there).session)
+    of x.session (state_at means core t n c.args.i (c.places_tell_of_clients.ensures.there core t n c.args.i h c.requires.at.place) c.look_at.result.now c.look_at.ensures x there).session)

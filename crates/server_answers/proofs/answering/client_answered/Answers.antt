@@ -1,4 +1,4 @@
-use Rattle.std.proofs.Common.{None, refl, sym, ap, subst, ◌∙◌}
+use Rattle.std.proofs.Common.{None, sym, subst, ◌∙◌}
 use Rattle.server_table.specs.Engine.{answer_for}
 use Rattle.server_state.specs.Core.{CourseStands}
 use Rattle.server_answers.proofs.Readied.{ahead_turned, either, both_err, on_err, on_ok, outbox_same, stays_beside, turn_begun}

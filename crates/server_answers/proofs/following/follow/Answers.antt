@@ -1,6 +1,5 @@
-use Rattle.std.proofs.Common.{◌≡◌, Some, sym, ap, subst, ◌∙◌}
+use Rattle.std.proofs.Common.{sym, subst}
 use Rattle.server_table.specs.Engine.{gone_on}
-use Rattle.server_table.specs.Table.{Client}
 use Rattle.server_state.specs.Core.{CourseStands}
 use Rattle.server_answers.specs.internal.Following.{MayFollow}
 use Rattle.server_answers.proofs.Going.{name_here}

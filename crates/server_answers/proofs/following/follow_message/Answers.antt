@@ -1,14 +1,10 @@
-use Rattle.std.proofs.Common.{◌≡◌, ◌≤◌, ℕ, List, Option, Some, sym, ap, subst, ◌∙◌}
-use Rattle.vpn_base.specs.declared.names.Cid.{Cid}
+use Rattle.std.proofs.Common.{◌≡◌, ◌≤◌, Some, sym, subst, ◌∙◌}
 use Rattle.peer_table.specs.Exchange.{all_unread}
 use Rattle.peer_table.specs.Peer.{Peer}
-use Rattle.server_table.specs.Engine.{asked, unread_judged}
-use Rattle.server_table.specs.Exchange as definitions
+use Rattle.server_table.specs.Engine.{asked}
 use Rattle.server_table.specs.Lookups.{client_here}
 use Rattle.server_table.specs.Table.{Client}
-use Rattle.server_state.specs.Core.{CourseStands}
 use Rattle.server_engine.specs.Files.{NameFits}
-use Rattle.server_establishing.specs.Prepared.{IsPrepared}
 use Rattle.server_answers.proofs.Going.{asked_so, follow_in_turn, kept_only, ready_still}
 use Rattle.server_answers.proofs.Keeping.{some_is}
 use Rattle.server_answers.proofs.following.follow_message.Goals as goal

@@ -1,4 +1,4 @@
-use Rattle.std.proofs.Common.{◌≡◌, Some, sym, ap, subst, ◌∙◌, arith}
+use Rattle.std.proofs.Common.{◌≡◌, Some, sym, subst}
 use Rattle.vpn_base.specs.declared.names.Cid.{Cid}
 use Rattle.server_table.specs.Exchange as definitions
 use Rattle.server_table.specs.Lookups.{client_here}

@@ -1,10 +1,8 @@
-use Rattle.std.proofs.Common.{Some, sym, ap, subst, ◌∙◌}
-use Rattle.server_table.specs.Table.{Client}
+use Rattle.std.proofs.Common.{sym, subst, ◌∙◌}
 use Rattle.server_state.specs.Core.{CourseStands}
 use Rattle.server_establishing.specs.Prepared.{IsPrepared}
 use Rattle.server_answers.specs.internal.Following.{IfKeyed}
 use Rattle.server_answers.proofs.Going.{session_at}
-use Rattle.server_answers.proofs.Keeping.{some_is}
 use Rattle.server_answers.proofs.Taken.{none_taken}
 use Rattle.server_answers.proofs.Unread.{none_keyless}
 use Rattle.server_answers.proofs.following.read_messages.Goals as goal

@@ -1,5 +1,4 @@
-use Rattle.std.proofs.Common.{◌≡◌, ◌≤◌, List, Some, sym, ap, subst, ◌∙◌}
-use Rattle.vpn_base.specs.declared.names.Cid.{Cid}
+use Rattle.std.proofs.Common.{sym, subst}
 use Rattle.peer_table.specs.EngineAnswers.{engine_came}
 use Rattle.server_table.specs.Courses.{acted}
 use Rattle.server_table.specs.Engine.{gone_on}

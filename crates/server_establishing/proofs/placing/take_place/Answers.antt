@@ -35,4 +35,4 @@ returns-clause-sound g c h =
     (changes_are means core c.args.cid.0 c.args.i v c.args.name c.args.address c.establish.new.self ct w
     (c.lending_sets_the_value.ensures c.establish.new.self c.args.i w) first c.requires.place c.set_address.ensures)
     c.establish.ensures.admitted_is c.establish.ensures.most_is in
-    record { sessions = s.sessions; most = s.most; admitted = s.admitted; connections = s.connections; timers = s.timers; no_counts = s.no_counts }
+    record { sessions = s.sessions; most = s.most; admitted = s.admitted; connections = s.connections; timers = s.timers; no_counts = s.no_counts; late = s.late }

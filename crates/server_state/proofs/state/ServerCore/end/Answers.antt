@@ -17,6 +17,7 @@ returns-in_default-clause-sound g c h = record {
   connections = h.connections;
   timers = h.timers;
   no_counts = h.no_counts;
+  late = h.late;
 }
 
 pub returns-in_default-clause-gone : goal.returns-in_default-clause-gone
@@ -48,4 +49,5 @@ returns-clause-sound g c h = record {
   connections = h.connections;
   timers = h.timers;
   no_counts = h.no_counts;
+  late = h.late;
 }

@@ -20,7 +20,7 @@ returns-in-Ok-clause-sound g c =
     let w = c.seal.new.self in
     let s = sound_changed g.S.ClientSession.goes_on g.S.ClientSession.count g.S.ClientSession.since core (with_value_at core.clients c.args.i w) c.args.i v w c.requires.sound
     c.value_at.ensures.value c.seal.ensures.goes_on c.seal.ensures.count (λ past. subst (λ n. n ≤ core.moment.0) (sym c.seal.ensures.since) past) (record { entries_are = c.lending_sets_the_value.ensures core.clients c.args.i w; admitted_is = refl; most_is = refl }) in
-    record { sessions = s.sessions; most = s.most; admitted = s.admitted; connections = s.connections; timers = s.timers; no_counts = s.no_counts }
+    record { sessions = s.sessions; most = s.most; admitted = s.admitted; connections = s.connections; timers = s.timers; no_counts = s.no_counts; late = s.late }
 
 pub returns-in-Err-clause-sealed : goal.returns-in-Err-clause-sealed
 returns-in-Err-clause-sealed g c before course h =
