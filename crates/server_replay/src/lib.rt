@@ -5,3 +5,6 @@ mod run;
 mod serve;
 
 pub use run::{Replayed, replay};
+
+#[cfg(test)]
+mod tests;
