@@ -127,9 +127,9 @@ module _ {F S : Type 0} (holds : F → List ℕ → Holding) (contents : S → O
   replayed_apart t first last name holding before ran out ended is_cut told is_out is_ended is_so is_told begun backing same r =
       subst (λ (x : S). IsReplay t holding before (contents x) ended is_cut told) (sym is_out)
       (subst (λ (x : Option ReplayEnd). IsReplay t holding before (contents last.out) x is_cut told) (sym is_ended)
-          (subst (λ (x : Bool). IsReplay t holding before (contents last.out) last.ended x told) (sym is_so)
-              (subst (λ (x : Ran). IsReplay t holding before (contents last.out) last.ended last.is_cut x) (sym is_told)
-                  (replayed t first last name holding before ran begun backing same r))))
+      (subst (λ (x : Bool). IsReplay t holding before (contents last.out) last.ended x told) (sym is_so)
+      (subst (λ (x : Ran). IsReplay t holding before (contents last.out) last.ended last.is_cut x) (sym is_told)
+      (replayed t first last name holding before ran begun backing same r))))
 
   pub broke_apart : (t : Table) (first last : Replay F S) (ran : Ran) (files files_now : F) (out out_now : S) (ended : Option ReplayEnd) (told : Ran) →
       files_now ≡ last.files → out_now ≡ last.out → ended ≡ last.ended → told ≡ told_run ran →
@@ -140,11 +140,11 @@ module _ {F S : Type 0} (holds : F → List ℕ → Holding) (contents : S → O
   broke_apart t first last ran files files_now out out_now ended told is_files is_out is_ended is_told had_files had_out missing refused begun r counted =
       subst (λ (x : F). BrokeBy told.outcome ended (files_count files, files_count x) (out_count out, out_count out_now)) (sym is_files)
       (subst (λ (x : S). BrokeBy told.outcome ended (files_count files, files_count last.files) (out_count out, out_count x)) (sym is_out)
-          (subst (λ (x : Option ReplayEnd). BrokeBy told.outcome x (files_count files, files_count last.files) (out_count out, out_count last.out)) (sym is_ended)
-              (subst (λ (x : Ran). BrokeBy x.outcome last.ended (files_count files, files_count last.files) (out_count out, out_count last.out)) (sym is_told)
-                  (subst (λ (x : F). BrokeBy (told_as ran.outcome) last.ended (files_count x, files_count last.files) (out_count out, out_count last.out)) had_files
-                      (subst (λ (x : S). BrokeBy (told_as ran.outcome) last.ended (files_count first.files, files_count last.files) (out_count x, out_count last.out)) had_out
-                          (broke first last r.rounds ran.outcome missing refused (r.told [] begun) counted))))))
+      (subst (λ (x : Option ReplayEnd). BrokeBy told.outcome x (files_count files, files_count last.files) (out_count out, out_count last.out)) (sym is_ended)
+      (subst (λ (x : Ran). BrokeBy x.outcome last.ended (files_count files, files_count last.files) (out_count out, out_count last.out)) (sym is_told)
+      (subst (λ (x : F). BrokeBy (told_as ran.outcome) last.ended (files_count x, files_count last.files) (out_count out, out_count last.out)) had_files
+      (subst (λ (x : S). BrokeBy (told_as ran.outcome) last.ended (files_count first.files, files_count last.files) (out_count x, out_count last.out)) had_out
+      (broke first last r.rounds ran.outcome missing refused (r.told [] begun) counted))))))
 
   pub uncut_apart : (first last : Replay F S) (out out_now : S) (is_cut : Bool) → out_now ≡ last.out → is_cut ≡ last.is_cut → first.out ≡ out → ReplayStands holds contents first [] →
       ((k : LinkFault) → replay_faults files_count out_count first k ≤ replay_faults files_count out_count last k) →

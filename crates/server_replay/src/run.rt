@@ -100,7 +100,8 @@ pub fn replay<F: Files, S: Sink>(
 {
     a_cut_is_a_failure();
     let links = ReplayLinks::new(alloc, files, schedule, out);
-    let (links, ran) =
-        serve::<PeerSession<Wrapper>, ReplayLinks<F, S>>(alloc, settings, key, links);
+    let (links, ran) = serve::<PeerSession<Wrapper>, ReplayLinks<F, S>>(
+        alloc, settings, key, links,
+    );
     taken_apart(links, ran)
 }

@@ -8,12 +8,12 @@ ghost use Rattle.vpn_links.specs.Rounds.{Round};
 ghost use Rattle.vpn_links.specs.declared.links.LinkFault.{LinkFault};
 ghost use Rattle.vpn_node.specs.Running.{Ends, RunOver};
 ghost use Rattle.server_table.specs.Table.{Table, table_begun};
-ghost use Rattle.server_state.specs.Core.{CoreStands};
 ghost use Rattle.server_replay.specs.internal.Serving.{Counted, Served};
 
 use ovpn_config::Settings;
 use peer_table::ClientSession;
-use server_core::Server;
+use server_core::{EventCore, Server};
+use server_state::ServerCore;
 use std::alloc::Global;
 use tls_crypt::StaticKey;
 use vpn_base::{NoMemory, Or, Role, RouteList, Text, TextList};
@@ -62,12 +62,7 @@ fn never_ran(outcome: Outcome) -> Ran
 }
 
 // Runs a core over links that were not started yet, and hands both back.
-fn run_over<M: Machine, L: Links>(
-    alloc: Global,
-    machine: M,
-    links: L,
-    plan: &Plan,
-) -> (M, L, Ran)
+fn run_over<M: Machine, L: Links>(alloc: Global, machine: M, links: L, plan: &Plan) -> (M, L, Ran)
     ensures run { (t : M.Table) → M.stands machine t →
         RunOver M.next M.effects M.may_lack (M.stands result.0) (L.stands links) (L.stands result.1) t (2 ^ 48) result.2 }
     ensures failed { Counted result.2.outcome (L.faults links) (L.faults result.1) }
@@ -98,13 +93,13 @@ fn never_served<L: Links>(links: L) -> (L, Ran)
 }
 
 // Runs a server over links.
-fn serve_by<S: ClientSession + Drop, L: Links>(
+fn serve_by<C: EventCore + Drop, L: Links>(
     alloc: Global,
-    server: Server<S>,
+    server: Server<C>,
     links: L,
     plan: &Plan,
 ) -> (L, Ran)
-    ensures run { (t : Table) → CoreStands S.stands server t → Served t (L.stands links) (L.stands result.0) result.1 }
+    ensures run { (t : Table) → C.stands server t → Served t (L.stands links) (L.stands result.0) result.1 }
     ensures failed { Counted result.1.outcome (L.faults links) (L.faults result.0) }
     ensures never_falls { (k : LinkFault) → L.faults links k ≤ L.faults result.0 k }
     ensures origin { L.origin_of result.0 ≡ L.origin_of links }
@@ -130,7 +125,7 @@ pub(crate) fn serve<S: ClientSession + Drop, L: Links>(
     let Ok(plan) = make_plan(alloc) else {
         return never_served(links);
     };
-    let Ok(server) = Server::<S>::make(alloc, settings, key) else {
+    let Ok(server) = Server::<ServerCore<S>>::make(alloc, settings, key) else {
         return never_served(links);
     };
     serve_by(alloc, server, links, &plan)

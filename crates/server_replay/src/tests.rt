@@ -43,7 +43,10 @@ fn an_end_alone_stops_the_server(rt: HostRuntime) -> Result<(), Fail> {
     match played(rt.alloc(), b"vpn-schedule 1\nend\n", b"s", 100)? {
         Some(replayed) => {
             assert_eq!(rt; replayed.ran.outcome, Outcome::Stopped);
-            assert_eq!(rt; (replayed.ran.events, replayed.ran.lost, replayed.ran.refused), (1, 0, 0));
+            assert_eq!(rt;
+                (replayed.ran.events, replayed.ran.lost, replayed.ran.refused),
+                (1, 0, 0)
+            );
             assert_eq!(rt; replayed.ended, None);
             assert!(rt; !replayed.is_cut && replayed.out.held() == b"0 stop\n".as_slice());
         }

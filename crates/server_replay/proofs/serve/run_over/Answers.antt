@@ -15,6 +15,6 @@ returns-in-Err-clause-run g c = λ t stands.
     over_none m.next m.effects m.may_lack (m.stands c.parts-machine-in-Err.result.0) (links.stands c.args.links) (links.stands c.parts-machine-in-Err.result.1) t (2 ^ 48) c.never_ran.result
     (subst (λ x. m.stands x t) (sym machine) stands)
     (λ l told. subst (λ x. links.stands x l) (sym parts.1)
-        (c.in-Err.ensures.rounds_kept l (subst (λ x. links.stands x l) (sym (ap (λ (p : Parts _ _). p.links) c.new.ensures)) told)))
+    (c.in-Err.ensures.rounds_kept l (subst (λ x. links.stands x l) (sym (ap (λ (p : Parts _ _). p.links) c.new.ensures)) told)))
     (subst (λ (r : Ran). Ends r.outcome (2 ^ 48) [] []) (sym ran) c.outcome_of.ensures.ended)
     (ap (λ (r : Ran). r.events) ran) (ap (λ (r : Ran). r.lost) ran) (ap (λ (r : Ran). r.refused) ran)
