@@ -1,0 +1,4 @@
+mod Runs
+mod Served
+mod Written
+mod Ends

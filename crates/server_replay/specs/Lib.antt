@@ -1,0 +1,4 @@
+pub mod Runs
+pub mod Transcript
+pub mod Replays
+pub mod internal
