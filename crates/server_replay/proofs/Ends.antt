@@ -1,5 +1,5 @@
 -- What a replay comes to, by what its links stand for at its end.
-use Rattle.std.proofs.Common.{◌≡◌, ℕ, suc, ◌+◌, ◌≤◌, ◌<◌, ◌^◌, Bool, true, false, List, [], ◌∷◌, ◌++◌, length, refl, ap, sym, ◌∙◌, subst, arith, inl, inr, zero, Option, Some, None}
+use Rattle.std.proofs.Common.{◌≡◌, ℕ, suc, ◌+◌, ◌≤◌, ◌<◌, Bool, true, false, List, [], ◌++◌, length, refl, ap, sym, ◌∙◌, subst, arith, inl, inr, zero, Option, Some}
 use Rattle.std.specs.Prelude.{◌⊎◌}
 use Rattle.std.proofs.lemmas.List.{length-map}
 use Rattle.vpn_base.specs.Answers.{Rose}
@@ -20,9 +20,8 @@ use Rattle.replay_links.specs.declared.end.ReplayEnd.{ReplayEnd}
 use Rattle.replay_links.specs.declared.end.ReplayEnd.TheVariants as ends
 use Rattle.server_table.specs.Runs.{Entry, run}
 use Rattle.server_table.specs.Table.{Table}
-use Rattle.server_replay.specs.Replays.{BrokeBy, CameFrom, IsReplay, most_turns}
+use Rattle.server_replay.specs.Replays.{BrokeBy, IsReplay, most_turns}
 use Rattle.server_replay.specs.Runs.{events_of}
-use Rattle.server_replay.specs.Transcript.{transcript}
 use Rattle.server_replay.specs.internal.Serving.{Counted, Served, told_as, told_run}
 use Rattle.server_replay.proofs.Written.{transcript_same}
 

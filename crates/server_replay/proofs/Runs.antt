@@ -1,16 +1,16 @@
 -- A run of a node over the server's definitions is their own run.
-use Rattle.std.proofs.Common.{◌≡◌, ℕ, ◌+◌, ◌≤◌, Bool, true, false, List, [], ◌∷◌, length, map, refl, ap, sym, ◌∙◌, subst, arith}
-use Rattle.std.specs.Prelude.{◌||◌, IsTrue}
+use Rattle.std.proofs.Common.{◌≡◌, ◌+◌, ◌≤◌, Bool, true, false, List, [], ◌∷◌, map, refl, ap, ◌∙◌, subst, arith}
+use Rattle.std.specs.Prelude.{◌||◌}
 use Rattle.std.specs.List.{list_any}
 use Rattle.std.proofs.lemmas.Bool.{false≢true}
-use Rattle.vpn_links.specs.Actions.{Action, Configure, Ask, Device, EngineClose, EngineOpen, EnginePut, EngineWrite, Report, Say, Stop, Wire}
+use Rattle.vpn_links.specs.Actions.{Action, Report}
 use Rattle.vpn_links.specs.Steps.{Lack, LacksAll, LacksHost, LacksNothing}
 use Rattle.vpn_links.specs.declared.events.Event.{Event}
 use Rattle.vpn_links.specs.declared.notes.Note.{Note}
 use Rattle.vpn_links.specs.declared.notes.Note.TheVariants as notes
 use Rattle.vpn_node.specs.Running as node
 use Rattle.server_table.specs.Courses.{outs}
-use Rattle.server_table.specs.Runs.{Entry, MayLack, MayRun, after, after_lacking, is_not_learned, needs_host, outs_at, outs_lacking, run}
+use Rattle.server_table.specs.Runs.{Entry, MayLack, MayRun, after, after_lacking, is_not_learned, needs_host, outs_lacking, run}
 use Rattle.server_table.specs.Step.{step}
 use Rattle.server_table.specs.Table.{Table}
 use Rattle.server_core.specs.Steps.{next_table, told_of}

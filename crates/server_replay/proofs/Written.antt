@@ -1,6 +1,5 @@
 -- The lines that links of a replay wrote are those of the effects that they were given.
-use Rattle.std.proofs.Common.{◌≡◌, ℕ, suc, List, [], ◌∷◌, ◌++◌, map, refl, ap, sym, ◌∙◌}
-use Rattle.vpn_links.specs.Actions.{Action}
+use Rattle.std.proofs.Common.{◌≡◌, ℕ, suc, List, [], ◌∷◌, ◌++◌, refl, ap, ◌∙◌}
 use Rattle.vpn_links.specs.Rounds.{Given, Round}
 use Rattle.schedule_text.specs.EffectLine.{effect_line}
 use Rattle.vpn_node.specs.Running.{actions_of, given_in}

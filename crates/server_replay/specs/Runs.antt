@@ -1,5 +1,5 @@
 -- What is told of a run of the server's definitions.
-use Rattle.std.specs.Prelude.{◌≡◌, ℕ, ◌+◌, Bool, true, false, List, [], ◌∷◌, map}
+use Rattle.std.specs.Prelude.{◌≡◌, ℕ, ◌+◌, true, false, List, [], ◌∷◌, map}
 use Rattle.vpn_links.specs.Steps.{Lack, LacksAll, LacksHost, LacksNothing}
 use Rattle.vpn_links.specs.declared.events.Event.{Event}
 use Rattle.vpn_node.specs.Running.{not_learned}
