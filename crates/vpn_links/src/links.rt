@@ -4,6 +4,7 @@ ghost use Rattle.std.specs.Prelude.{◌≡◌, ℕ, ◌≤◌, List, IfOk, IfErr
 ghost use Rattle.vpn_base.specs.Answers.{Rose, IfWhy};
 ghost use Rattle.vpn_base.specs.declared.errors.Or.{Or};
 ghost use Rattle.vpn_links.specs.Actions.{action, is_wire};
+ghost use Rattle.vpn_links.specs.Faults.{Asking, Giving, LinkCall, Starting};
 ghost use Rattle.vpn_links.specs.Rounds.{Round, IsOfLine, came, after_give};
 ghost use Rattle.vpn_links.specs.Starts.{Started, started_with};
 
@@ -94,6 +95,7 @@ fn copy_if(alloc: Global, text: &Option<Text>) -> Result<Option<Text>, NoMemory>
 
 /// The outside of a core. It gives events, one at a time, and takes the effects of each.
 pub trait Links {
+    ghost use Rattle.vpn_links.specs.Faults.{LinkCall};
     ghost use Rattle.vpn_links.specs.declared.links.LinkFault.{LinkFault};
 
     /// The type of what stands behind it.
@@ -112,12 +114,16 @@ pub trait Links {
     /// How often each part failed.
     ghost faults: { Self → LinkFault → ℕ };
 
+    /// Which faults a call of each kind may answer.
+    ghost may_fail: { LinkCall → LinkFault → Type 0 };
+
     /// Starts the outside with a plan.
     fn start(&mut self, plan: &Plan) -> Result<(), Or<LinkFault>>
         ensures started { OnOk result (started self.new ≡ started_with (started self.old) plan.now) }
         ensures refused { OnErr result (started self.new ≡ started self.old) }
         ensures rounds { (l : List Round) → stands self.old l → stands self.new l }
         ensures failed { IfErr result (λ e. IfWhy e (λ k. Rose (faults self.old k) (faults self.new k))) }
+        ensures may { IfErr result (λ e. IfWhy e (may_fail Starting)) }
         ensures never_falls { (k : LinkFault) → faults self.old k ≤ faults self.new k }
         ensures origin { origin_of self.new ≡ origin_of self.old };
 
@@ -130,6 +136,7 @@ pub trait Links {
         ensures never_wire { result ≡ Err (Or.Why LinkFault.Wire) → ⊥ }
         ensures started { started self.new ≡ started self.old }
         ensures failed { IfErr result (λ e. IfWhy e (λ k. Rose (faults self.old k) (faults self.new k))) }
+        ensures may { IfErr result (λ e. IfWhy e (may_fail Asking)) }
         ensures never_falls { (k : LinkFault) → faults self.old k ≤ faults self.new k }
         ensures origin { origin_of self.new ≡ origin_of self.old };
 
@@ -140,6 +147,7 @@ pub trait Links {
         ensures wire { result ≡ Err (Or.Why LinkFault.Wire) → IsTrue (is_wire (action e.now)) }
         ensures started { started self.new ≡ started self.old }
         ensures failed { IfErr result (λ e. IfWhy e (λ k. Rose (faults self.old k) (faults self.new k))) }
+        ensures may { IfErr result (λ e. IfWhy e (may_fail Giving)) }
         ensures never_falls { (k : LinkFault) → faults self.old k ≤ faults self.new k }
         ensures origin { origin_of self.new ≡ origin_of self.old };
 }

@@ -278,11 +278,14 @@ impl Links for MemLinks {
 
     ghost faults = { λ m k. count_of m.faults k };
 
+    ghost may_fail = { λ _ _. Unit {0} };
+
     fn start(&mut self, plan: &Plan) -> Result<(), Or<LinkFault>>
         ensures started { OnOk result (started_of self.new.plan ≡ started_with (started_of self.old.plan) plan.now) }
         ensures refused { OnErr result (started_of self.new.plan ≡ started_of self.old.plan) }
         ensures rounds { (l : List Round) → l ≡ rounds_of self.old → l ≡ rounds_of self.new }
         ensures failed { IfErr result (λ e. IfWhy e (λ k. Rose (count_of self.old.faults k) (count_of self.new.faults k))) }
+        ensures may { IfErr result (λ e. IfWhy e (λ _. Unit {0})) }
         ensures never_falls { (k : LinkFault) → count_of self.old.faults k ≤ count_of self.new.faults k }
         ensures origin { ◌≡◌ {A = Unit {0}} tt tt }
 
@@ -306,6 +309,7 @@ impl Links for MemLinks {
         ensures never_wire { result ≡ Err (Or.Why LinkFault.Wire) → ⊥ }
         ensures started { started_of self.new.plan ≡ started_of self.old.plan }
         ensures failed { IfErr result (λ e. IfWhy e (λ k. Rose (count_of self.old.faults k) (count_of self.new.faults k))) }
+        ensures may { IfErr result (λ e. IfWhy e (λ _. Unit {0})) }
         ensures never_falls { (k : LinkFault) → count_of self.old.faults k ≤ count_of self.new.faults k }
         ensures origin { ◌≡◌ {A = Unit {0}} tt tt }
 
@@ -331,6 +335,7 @@ impl Links for MemLinks {
         ensures wire { result ≡ Err (Or.Why LinkFault.Wire) → IsTrue (is_wire (action e.now)) }
         ensures started { started_of self.new.plan ≡ started_of self.old.plan }
         ensures failed { IfErr result (λ e. IfWhy e (λ k. Rose (count_of self.old.faults k) (count_of self.new.faults k))) }
+        ensures may { IfErr result (λ e. IfWhy e (λ _. Unit {0})) }
         ensures never_falls { (k : LinkFault) → count_of self.old.faults k ≤ count_of self.new.faults k }
         ensures origin { ◌≡◌ {A = Unit {0}} tt tt }
 

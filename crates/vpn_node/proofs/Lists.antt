@@ -5,8 +5,10 @@ use Rattle.std.proofs.lemmas.List.Folds.{list_any-append}
 use Rattle.std.proofs.lemmas.Option.{none-some}
 use Rattle.std.proofs.lemmas.Bool.{false≢true}
 use Rattle.vpn_links.specs.Actions.{Action}
+use Rattle.vpn_links.specs.Faults.{LinkCall}
 use Rattle.vpn_links.specs.Rounds.{Given, Round, gave}
 use Rattle.vpn_links.specs.declared.events.Event.{Event}
+use Rattle.vpn_links.specs.declared.links.LinkFault.{LinkFault}
 use Rattle.vpn_node.specs.Running.{OnlyWireLost, OnlyWiresLost, capped, count_last, cut_last, goes_on, is_not_learned, lost_by, lost_of, not_learned, one_if, stops, stops_last, stops_only_last}
 
 -- ---- of any list
@@ -44,9 +46,9 @@ pub lost_one : (given : List Given) (g : Given) → lost_of (given ++ g ∷ []) 
 lost_one [] g = omega arith
 lost_one (h ∷ given) g = omega (arith, lost_one given g)
 
-pub wires_one : (given : List Given) (g : Given) → OnlyWireLost given → OnlyWireLost (g ∷ []) → OnlyWireLost (given ++ g ∷ [])
-wires_one [] g all one = one
-wires_one (h ∷ given) g all one = (all.0, wires_one given g all.1 one)
+pub wires_one : (may : LinkCall → LinkFault → Type 0) (given : List Given) (g : Given) → OnlyWireLost may given → OnlyWireLost may (g ∷ []) → OnlyWireLost may (given ++ g ∷ [])
+wires_one may [] g all one = one
+wires_one may (h ∷ given) g all one = (all.0, wires_one may given g all.1 one)
 
 -- an effect stands behind those of the last event
 pub gave_behind : (rounds : List Round) (event : Event) (given : List Given) (g : Given) →
@@ -62,9 +64,9 @@ pub lost_round : (rounds : List Round) (r : Round) → lost_by (rounds ++ r ∷ 
 lost_round [] r = omega arith
 lost_round (s ∷ rounds) r = omega (arith, lost_round rounds r)
 
-pub wires_round : (rounds : List Round) (r : Round) → OnlyWiresLost rounds → OnlyWireLost r.effects → OnlyWiresLost (rounds ++ r ∷ [])
-wires_round [] r all one = (one, tt)
-wires_round (s ∷ rounds) r all one = (all.0, wires_round rounds r all.1 one)
+pub wires_round : (may : LinkCall → LinkFault → Type 0) (rounds : List Round) (r : Round) → OnlyWiresLost may rounds → OnlyWireLost may r.effects → OnlyWiresLost may (rounds ++ r ∷ [])
+wires_round may [] r all one = (one, tt)
+wires_round may (s ∷ rounds) r all one = (all.0, wires_round may rounds r all.1 one)
 
 -- ---- of what events do
 

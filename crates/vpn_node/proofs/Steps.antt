@@ -2,9 +2,11 @@
 use Rattle.std.proofs.Common.{◌≡◌, ℕ, ◌+◌, ◌^◌, ◌<◌, Bool, true, false, List, [], ◌∷◌, ◌++◌, length, refl, ap, sym, ◌∙◌, subst, arith, slice_get, Some}
 use Rattle.std.proofs.lemmas.List.{map-append}
 use Rattle.vpn_links.specs.Actions.{Action, Contents}
+use Rattle.vpn_links.specs.Faults.{LinkCall}
 use Rattle.vpn_links.specs.Rounds.{Given, Round}
 use Rattle.vpn_links.specs.Steps.{Lack, LacksHost, LacksNothing, Stepped}
 use Rattle.vpn_links.specs.declared.events.Event.{Event}
+use Rattle.vpn_links.specs.declared.links.LinkFault.{LinkFault}
 use Rattle.vpn_node.specs.Running.{capped, lost_of, not_learned, one_if}
 use Rattle.vpn_node.specs.internal.Turns.{GaveAlso, GaveFirst, GaveNone, TookStep}
 use Rattle.vpn_node.proofs.Lists.{capped_on, gave_behind, lost_one, take_next, wires_one}
@@ -38,8 +40,8 @@ took_event next effects may_lack Stands t event before out refused s empty count
     (s.told.0 ∙ ap (λ l. l ++ effects s.lacks t event) empty) counted
 
 -- nothing was given yet
-pub gave_none : (actions : List Action) (Told : List Round → Type 0) (lost : ℕ) → lost < 2 ^ 64 → GaveFirst 0 actions Told Told lost lost
-gave_none actions Told lost fits = record {
+pub gave_none : (may_fail : LinkCall → LinkFault → Type 0) (actions : List Action) (Told : List Round → Type 0) (lost : ℕ) → lost < 2 ^ 64 → GaveFirst may_fail 0 actions Told Told lost lost
+gave_none may_fail actions Told lost fits = record {
   given = [];
   same = refl;
   wires = tt;
@@ -48,15 +50,15 @@ gave_none actions Told lost fits = record {
 }
 
 -- one effect more was given
-pub gave_more : (i : ℕ) (actions : List Action) (action : Action) (Begun Before Told : List Round → Type 0) (lost_begun lost_before lost : ℕ) →
-    Some action ≡ slice_get actions i → GaveFirst i actions Begun Before lost_begun lost_before → GaveAlso action Before Told lost_before lost →
-    GaveFirst (i + 1) actions Begun Told lost_begun lost
-gave_more i actions action Begun Before Told lost_begun lost_before lost at g one =
+pub gave_more : (may_fail : LinkCall → LinkFault → Type 0) (i : ℕ) (actions : List Action) (action : Action) (Begun Before Told : List Round → Type 0) (lost_begun lost_before lost : ℕ) →
+    Some action ≡ slice_get actions i → GaveFirst may_fail i actions Begun Before lost_begun lost_before → GaveAlso may_fail action Before Told lost_before lost →
+    GaveFirst may_fail (i + 1) actions Begun Told lost_begun lost
+gave_more may_fail i actions action Begun Before Told lost_begun lost_before lost at g one =
     let also : Given = record { action = action; is_lost = one.is_lost } in
     record {
       given = g.given ++ also ∷ [];
       same = map-append (λ (h : Given). h.action) g.given (also ∷ []) ∙ (ap (λ l. l ++ action ∷ []) g.same ∙ sym (take_next actions i action at));
-      wires = wires_one g.given also g.wires (one.wire, tt);
+      wires = wires_one may_fail g.given also g.wires (one.wire, tt);
       told = λ rounds event before. subst Told (gave_behind rounds event g.given also)
           (one.told (rounds ++ record { event = event; effects = g.given } ∷ []) (g.told rounds event before));
       counted = one.counted ∙ (capped_on (lost_begun + lost_of g.given) (one_if one.is_lost) lost_before g.counted
@@ -64,10 +66,10 @@ gave_more i actions action Begun Before Told lost_begun lost_before lost at g on
     }
 
 -- an effect was not given
-pub gave_part : (i : ℕ) (actions : List Action) (action : Action) (Begun Before Told : List Round → Type 0) (lost_begun lost_before lost : ℕ) →
-    i < length actions → GaveFirst i actions Begun Before lost_begun lost_before → GaveNone Before Told lost_before lost →
-    (n : ℕ) × (n < length actions) × GaveFirst n actions Begun Told lost_begun lost
-gave_part i actions action Begun Before Told lost_begun lost_before lost within g none = (
+pub gave_part : (may_fail : LinkCall → LinkFault → Type 0) (i : ℕ) (actions : List Action) (action : Action) (Begun Before Told : List Round → Type 0) (lost_begun lost_before lost : ℕ) →
+    i < length actions → GaveFirst may_fail i actions Begun Before lost_begun lost_before → GaveNone Before Told lost_before lost →
+    (n : ℕ) × (n < length actions) × GaveFirst may_fail n actions Begun Told lost_begun lost
+gave_part may_fail i actions action Begun Before Told lost_begun lost_before lost within g none = (
   i,
   within,
   record {

@@ -3,6 +3,7 @@ use Rattle.std.specs.Prelude.{◌≡◌, ℕ, ◌+◌, ◌-◌, ◌^◌, ◌<◌
 use Rattle.std.specs.List.{list_any}
 use Rattle.vpn_base.specs.Answers.{Rose}
 use Rattle.vpn_links.specs.Actions.{Action, Report, Stop, is_wire}
+use Rattle.vpn_links.specs.Faults.{Asking, Giving, LinkCall}
 use Rattle.vpn_links.specs.Rounds.{Given, Round}
 use Rattle.vpn_links.specs.Steps.{Lack, LacksAll, LacksHost, LacksNothing}
 use Rattle.vpn_links.specs.declared.events.Event.{Event}
@@ -121,15 +122,15 @@ actions_of given = map (λ g. g.action) given
 abbrev pub given_in : List Round → List (List Action)
 given_in rounds = map (λ r. actions_of r.effects) rounds
 
--- only datagrams were lost
-abbrev pub OnlyWireLost : List Given → Type 0
-OnlyWireLost [] = Unit {0}
-OnlyWireLost (g ∷ given) = (IsTrue g.is_lost → IsTrue (is_wire g.action)) × OnlyWireLost given
+-- only datagrams were lost, and those only where the line may lose one
+abbrev pub OnlyWireLost : (LinkCall → LinkFault → Type 0) → List Given → Type 0
+OnlyWireLost may [] = Unit {0}
+OnlyWireLost may (g ∷ given) = (IsTrue g.is_lost → IsTrue (is_wire g.action) × may Giving faults.Wire) × OnlyWireLost may given
 
 -- the same of all rounds
-abbrev pub OnlyWiresLost : List Round → Type 0
-OnlyWiresLost [] = Unit {0}
-OnlyWiresLost (r ∷ rounds) = OnlyWireLost r.effects × OnlyWiresLost rounds
+abbrev pub OnlyWiresLost : (LinkCall → LinkFault → Type 0) → List Round → Type 0
+OnlyWiresLost may [] = Unit {0}
+OnlyWiresLost may (r ∷ rounds) = OnlyWireLost may r.effects × OnlyWiresLost may rounds
 
 -- whether an effect ends the program
 abbrev pub is_stop : Action → Bool
@@ -168,25 +169,25 @@ cut_last n [] = []
 cut_last n (actions ∷ []) = take n actions ∷ []
 cut_last n (actions ∷ more ∷ outs) = actions ∷ cut_last n (more ∷ outs)
 
--- a run that a fault or want of memory broke off: in place of a further event, or of an effect of the last one
-pub data BrokeOff (turns : ℕ) (outs given : List (List Action)) : Type 0 where
-  Between : given ≡ outs → IsTrue (goes_on outs) → length outs < turns → BrokeOff turns outs given
-  Within : (n : ℕ) → given ≡ cut_last n outs → n < count_last outs → IsTrue (stops_only_last outs) → length outs ≤ turns → BrokeOff turns outs given
+-- a run that a fault or want of memory broke off: in place of a further event, or of an effect of the last one, each only where that may be
+pub data BrokeOff (may_ask may_give : Type 0) (turns : ℕ) (outs given : List (List Action)) : Type 0 where
+  Between : may_ask → given ≡ outs → IsTrue (goes_on outs) → length outs < turns → BrokeOff may_ask may_give turns outs given
+  Within : may_give → (n : ℕ) → given ≡ cut_last n outs → n < count_last outs → IsTrue (stops_only_last outs) → length outs ≤ turns → BrokeOff may_ask may_give turns outs given
 
--- how a run of at most so many events ended, by what its events do and what was given of it
-abbrev pub Ends : Outcome → ℕ → List (List Action) → List (List Action) → Type 0
-Ends outcomes.Stopped turns outs given = (given ≡ outs) × IsTrue (stops_last outs) × (length outs ≤ turns)
-Ends outcomes.TurnsSpent turns outs given = (given ≡ outs) × IsTrue (goes_on outs) × (length outs ≡ turns)
-Ends (outcomes.Fault fault) turns outs given = BrokeOff turns outs given
-Ends outcomes.Memory turns outs given = BrokeOff turns outs given
+-- how a run of at most so many events ended, over an outside whose calls may answer these faults, by what its events do and what was given of it
+abbrev pub Ends : (LinkCall → LinkFault → Type 0) → Outcome → ℕ → List (List Action) → List (List Action) → Type 0
+Ends may outcomes.Stopped turns outs given = (given ≡ outs) × IsTrue (stops_last outs) × (length outs ≤ turns)
+Ends may outcomes.TurnsSpent turns outs given = (given ≡ outs) × IsTrue (goes_on outs) × (length outs ≡ turns)
+Ends may (outcomes.Fault fault) turns outs given = BrokeOff (may Asking fault) (may Giving fault) turns outs given
+Ends may outcomes.Memory turns outs given = BrokeOff (Unit {0}) (Unit {0}) turns outs given
 
 -- a fault that ended a run was counted, and is not of the line
 abbrev pub Caused : Outcome → (LinkFault → ℕ) → (LinkFault → ℕ) → Type 0
 Caused (outcomes.Fault fault) before now = (fault ≡ faults.Wire → ⊥) × Rose (before fault) (now fault)
 Caused _ before now = Unit {0}
 
--- what a run came to, of a core that stood for a table: its events with what lacked, and the rounds that the outside got beyond those that it had
-pub record RunOver {T : Type 0} (next : Bool → T → Event → T) (effects : Bool → T → Event → List Action) (may_lack : T → Event → Lack → Type 0)
+-- what a run came to, of a core that stood for a table, over an outside whose calls may answer these faults: its events with what lacked, and the rounds that the outside got beyond those that it had
+pub record RunOver {T : Type 0} (may_fail : LinkCall → LinkFault → Type 0) (next : Bool → T → Event → T) (effects : Bool → T → Event → List Action) (may_lack : T → Event → Lack → Type 0)
     (Stands : T → Type 0) (Told_before Told : List Round → Type 0) (t : T) (turns : ℕ) (ran : Ran) : Type 0 where
   pub entries : List Entry
   pub rounds : List Round
@@ -194,8 +195,8 @@ pub record RunOver {T : Type 0} (next : Bool → T → Event → T) (effects : B
   pub stands : Stands (after_all next t entries)
   pub told : (before : List Round) → Told_before before → Told (before ++ rounds)
   pub came : came_in rounds ≡ events_of entries
-  pub wires : OnlyWiresLost rounds
-  pub ended : Ends ran.outcome turns (run next effects t entries) (given_in rounds)
+  pub wires : OnlyWiresLost may_fail rounds
+  pub ended : Ends may_fail ran.outcome turns (run next effects t entries) (given_in rounds)
   pub events : ran.events ≡ length entries
   pub lost : ran.lost ≡ capped (lost_by rounds)
   pub refused : ran.refused ≡ capped (refused_by next effects t entries)

@@ -2,6 +2,7 @@
 
 ghost use Rattle.std.specs.Prelude.{◌≡◌, ◌≤◌, List, IfOk, IfErr};
 ghost use Rattle.vpn_base.specs.Answers.{Rose, IfWhy};
+ghost use Rattle.vpn_links.specs.Faults.{Starting};
 ghost use Rattle.vpn_links.specs.Rounds.{Round};
 ghost use Rattle.vpn_links.specs.Starts.{started_with};
 ghost use Rattle.vpn_links.specs.declared.links.LinkFault.{LinkFault};
@@ -77,6 +78,7 @@ impl<M: Machine, L: Links> Node<M, L, Closed> {
         ensures rounds { IfOk result (λ n. (l : List Round) → L.stands self.links l → L.stands n.links l) }
         ensures rounds_kept { IfErr result (λ e. (l : List Round) → L.stands self.links l → L.stands e.0.links l) }
         ensures failed { IfErr result (λ e. IfWhy e.1 (λ k. Rose (L.faults self.links k) (L.faults e.0.links k))) }
+        ensures may { IfErr result (λ e. IfWhy e.1 (L.may_fail Starting)) }
         ensures never_falls { IfOk result (λ n. (k : LinkFault) → L.faults self.links k ≤ L.faults n.links k) }
         ensures never_falls_refused { IfErr result (λ e. (k : LinkFault) → L.faults self.links k ≤ L.faults e.0.links k) }
         ensures origin { IfOk result (λ n. L.origin_of n.links ≡ L.origin_of self.links) }
@@ -115,7 +117,7 @@ impl<M: Machine, L: Links> Node<M, L, Serving> {
         // For each table that the core stands for: the events of the run with what lacked at them, the effects that
         // were given of each, and the counts.
         ensures run { (t : M.Table) → M.stands self.machine t →
-            RunOver M.next M.effects M.may_lack (M.stands result.0.machine) (L.stands self.links) (L.stands result.0.links) t turns result.1 }
+            RunOver L.may_fail M.next M.effects M.may_lack (M.stands result.0.machine) (L.stands self.links) (L.stands result.0.links) t turns result.1 }
         ensures failed { Caused result.1.outcome (L.faults self.links) (L.faults result.0.links) }
         ensures never_falls { (k : LinkFault) → L.faults self.links k ≤ L.faults result.0.links k }
         ensures started { L.started result.0.links ≡ L.started self.links }

@@ -102,8 +102,8 @@ fn step_event<M: Machine>(machine: &mut M, event: &Event, out: &mut Outbox) -> u
 // Gives an effect, and answers what breaks the run off, if anything does.
 fn give_one<L: Links>(links: &mut L, e: &Effect<'_>, lost: &mut u64) -> Option<Outcome>
     requires { lost.old < 2 ^ 64 }
-    ensures gave { GaveOne result (action e.now) (L.stands links.old) (L.stands links.new) lost.old lost.new }
-    ensures failed { IfSome result (λ o. IsBreak o (L.faults links.old) (L.faults links.new)) }
+    ensures gave { GaveOne L.may_fail result (action e.now) (L.stands links.old) (L.stands links.new) lost.old lost.new }
+    ensures failed { IfSome result (λ o. IsBreak L.may_fail o (L.faults links.old) (L.faults links.new)) }
     ensures never_falls { (k : LinkFault) → L.faults links.old k ≤ L.faults links.new k }
     ensures started { L.started links.new ≡ L.started links.old }
     ensures origin { L.origin_of links.new ≡ L.origin_of links.old }
@@ -122,8 +122,8 @@ fn give_one<L: Links>(links: &mut L, e: &Effect<'_>, lost: &mut u64) -> Option<O
 // Gives all effects of an event, in order, up to a break.
 fn give_all<L: Links>(links: &mut L, out: &Outbox, lost: &mut u64) -> Option<Outcome>
     requires { lost.old < 2 ^ 64 }
-    ensures gave { Gave result out.now.effects (L.stands links.old) (L.stands links.new) lost.old lost.new }
-    ensures failed { IfSome result (λ o. IsBreak o (L.faults links.old) (L.faults links.new)) }
+    ensures gave { Gave L.may_fail result out.now.effects (L.stands links.old) (L.stands links.new) lost.old lost.new }
+    ensures failed { IfSome result (λ o. IsBreak L.may_fail o (L.faults links.old) (L.faults links.new)) }
     ensures never_falls { (k : LinkFault) → L.faults links.old k ≤ L.faults links.new k }
     ensures started { L.started links.new ≡ L.started links.old }
     ensures origin { L.origin_of links.new ≡ L.origin_of links.old }
@@ -165,7 +165,7 @@ fn take_turn<M: Machine, L: Links>(
 ) -> Option<Outcome>
     requires { tally.old.events < 2 ^ 64 - 1 }
     ensures turned { (t : M.Table) → M.stands machine.old t →
-        Turned result M.next M.effects M.may_lack (M.stands machine.new) (L.stands links.old) (L.stands links.new) t tally.old tally.new }
+        Turned L.may_fail result M.next M.effects M.may_lack (M.stands machine.new) (L.stands links.old) (L.stands links.new) t tally.old tally.new }
     ensures further { IfNone result (tally.new.events ≡ tally.old.events + 1) }
     ensures failed { IfSome result (λ o. Caused o (L.faults links.old) (L.faults links.new)) }
     ensures never_falls { (k : LinkFault) → L.faults links.old k ≤ L.faults links.new k }
@@ -196,8 +196,8 @@ fn ran(outcome: Outcome, tally: Tally) -> Ran
 }
 
 // What a run comes to that finds no memory for an outbox.
-fn end_at_once(turns: u64) -> Ran
-    ensures ended { Ends result.outcome turns [] [] }
+fn end_at_once<L: Links>(turns: u64) -> Ran
+    ensures ended { Ends L.may_fail result.outcome turns [] [] }
     ensures none { (result.events ≡ 0) × (result.lost ≡ 0) × (result.refused ≡ 0) }
     ensures uncaused { (before now : LinkFault → ℕ) → Caused result.outcome before now }
 {
@@ -224,7 +224,7 @@ fn run_turns<M: Machine, L: Links>(
     turns: u64,
 ) -> Ran
     ensures run { (t : M.Table) → M.stands machine.old t →
-        RunOver M.next M.effects M.may_lack (M.stands machine.new) (L.stands links.old) (L.stands links.new) t turns result }
+        RunOver L.may_fail M.next M.effects M.may_lack (M.stands machine.new) (L.stands links.old) (L.stands links.new) t turns result }
     ensures failed { Caused result.outcome (L.faults links.old) (L.faults links.new) }
     ensures never_falls { (k : LinkFault) → L.faults links.old k ≤ L.faults links.new k }
     ensures started { L.started links.new ≡ L.started links.old }
@@ -251,14 +251,14 @@ pub(crate) fn run<M: Machine, L: Links>(
     turns: u64,
 ) -> Ran
     ensures run { (t : M.Table) → M.stands machine.old t →
-        RunOver M.next M.effects M.may_lack (M.stands machine.new) (L.stands links.old) (L.stands links.new) t turns result }
+        RunOver L.may_fail M.next M.effects M.may_lack (M.stands machine.new) (L.stands links.old) (L.stands links.new) t turns result }
     ensures failed { Caused result.outcome (L.faults links.old) (L.faults links.new) }
     ensures never_falls { (k : LinkFault) → L.faults links.old k ≤ L.faults links.new k }
     ensures started { L.started links.new ≡ L.started links.old }
     ensures origin { L.origin_of links.new ≡ L.origin_of links.old }
 {
     let Ok(mut out) = Outbox::make(alloc) else {
-        return end_at_once(turns);
+        return end_at_once::<L>(turns);
     };
     let mut event = Event {
         now: Moment(0),

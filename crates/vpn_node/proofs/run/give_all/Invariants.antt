@@ -8,7 +8,7 @@ invariant-loop-i g l =
     let links = g.L.Links in
     record {
       within : l.i ≤ length l.out.effects;
-      gave : GaveFirst l.i l.out.effects (links.stands l.fn.links) (links.stands l.links) l.fn.lost l.lost;
+      gave : GaveFirst links.may_fail l.i l.out.effects (links.stands l.fn.links) (links.stands l.links) l.fn.lost l.lost;
       never_falls : (k : LinkFault) → links.faults l.fn.links k ≤ links.faults l.links k;
       started : links.started l.links ≡ links.started l.fn.links;
       origin : links.origin_of l.links ≡ links.origin_of l.fn.links;

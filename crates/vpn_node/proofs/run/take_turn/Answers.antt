@@ -6,7 +6,7 @@ pub returns-in-Some-clause-turned : goal.returns-in-Some-clause-turned
 returns-in-Some-clause-turned g c = λ t stands.
     let m = g.M.Machine in
     let links = g.L.Links in
-    turn_broken m.next m.effects m.may_lack (m.stands c.step_event-refused.new.machine)
+    turn_broken links.may_fail m.next m.effects m.may_lack (m.stands c.step_event-refused.new.machine)
     (links.stands c.args.links.now) (links.stands c.next.new.self) (links.stands c.give_all.new.links)
     t c.next.new.into c.step_event-refused.new.out c.step_event-refused.result c.args.tally.now
     (record { events = c.args.tally.now.events + 1; lost = c.give_all.new.lost; refused = c.saturating_add-tally.result })
@@ -18,7 +18,7 @@ returns-in-None-clause-turned g c = λ t stands.
     let m = g.M.Machine in
     let links = g.L.Links in
     rw c.end_of.ensures
-    (turn_whole m.next m.effects m.may_lack (m.stands c.step_event-refused.new.machine)
+    (turn_whole links.may_fail m.next m.effects m.may_lack (m.stands c.step_event-refused.new.machine)
     (links.stands c.args.links.now) (links.stands c.next.new.self) (links.stands c.give_all.new.links)
     t c.next.new.into c.step_event-refused.new.out c.step_event-refused.result c.args.tally.now
     (record { events = c.args.tally.now.events + 1; lost = c.give_all.new.lost; refused = c.saturating_add-tally.result })
