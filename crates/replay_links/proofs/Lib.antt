@@ -4,3 +4,4 @@ pub mod FileFronts
 pub mod LongText
 pub mod NextLine
 pub mod Standing
+pub mod WholeSchedules

@@ -2,7 +2,7 @@
 use Rattle.std.proofs.Common.{◌≡◌, ℕ, suc, ◌+◌, ◌-◌, ◌<◌, ◌≤◌, Bool, true, false, List, [], ◌∷◌, ◌++◌, length, take, refl, ap, sym, ◌∙◌, subst, arith, append_assoc, append-nil, take_all, length-append, Some, None, Option, if◌then◌else◌, ap₂, leb-false, leb-true, le-leb, length-take-le, lt_of_lt_of_le, nat_le}
 use Rattle.std.proofs.lemmas.Bool.{false_from_ne_true, false≢true}
 use Rattle.std.proofs.lemmas.List.{map-append, take-append-le}
-use Rattle.vpn_base.specs.Files.{Holding}
+use Rattle.vpn_base.specs.Files.{Holding, Absent}
 use Rattle.vpn_base.specs.Sink.{appended}
 use Rattle.vpn_links.specs.Actions.{Action}
 use Rattle.vpn_links.specs.Rounds.{Given, Round, came, gave}
@@ -115,7 +115,7 @@ stands_within holding contents r next rounds e opened first is s =
     cause_later : (holding : Holding) (is_open : Bool) (left later : List Event) (fault : Option LineFault) (e : Event) → left ≡ e ∷ later → (x : Option ReplayEnd) → Caused holding is_open left fault x → Caused holding is_open later fault x
     cause_later holding is_open left later fault e first None c = tt
     cause_later holding is_open left later fault e first (Some ends.Missing) c = c
-    cause_later holding is_open left later fault e first (Some ends.Failed) c = tt
+    cause_later holding is_open left later fault e first (Some ends.Failed) c = c
     cause_later holding is_open left later fault e first (Some (ends.Refused line kind)) c = absurd (omega (arith, ap length first, ap length c.1))
 
 -- an end behind the schedule came
@@ -171,14 +171,14 @@ stands_missing holding contents r next rounds closed missing is s =
 
 -- it could not be read
 pub stands_failed : {F S : Type 0} (holding : Holding) (contents : Option (List ℕ)) (r next : Replay F S) (rounds : List Round) →
-    r.is_open ≡ false → (r.ended ≡ Some ends.Missing → ⊥) → next ≡ record r { files = next.files; ended = Some ends.Failed } →
+    r.is_open ≡ false → (r.ended ≡ Some ends.Missing → ⊥) → (¬ (holding ≡ Absent)) → next ≡ record r { files = next.files; ended = Some ends.Failed } →
     StandsFor holding contents r rounds → StandsFor holding contents next rounds
-stands_failed holding contents r next rounds closed other is s =
+stands_failed holding contents r next rounds closed other there is s =
     rw is (record {
       events = s.events;
       count = s.count;
       wrote = s.wrote;
-      cause = tt;
+      cause = there;
       no_file = λ some. absurd (other (s.no_file some));
       a_line = λ some. absurd (refused_open holding r.is_open r.left r.fault r.ended closed s.cause (s.a_line some));
     })
@@ -202,7 +202,7 @@ stands_open holding contents r next rounds closed other front spelled is s =
     kept : (holding : Holding) (is_open : Bool) (left later : List Event) (fault next_fault : Option LineFault) (x : Option ReplayEnd) → is_open ≡ false → (x ≡ Some ends.Missing → ⊥) → Caused holding is_open left fault x → Caused holding true later next_fault x
     kept holding is_open left later fault next_fault None closed other c = tt
     kept holding is_open left later fault next_fault (Some ends.Missing) closed other c = absurd (other refl)
-    kept holding is_open left later fault next_fault (Some ends.Failed) closed other c = tt
+    kept holding is_open left later fault next_fault (Some ends.Failed) closed other c = c
     kept holding is_open left later fault next_fault (Some (ends.Refused line kind)) closed other c = absurd (false≢true (sym closed ∙ c.0))
 
 -- ---- a line was written

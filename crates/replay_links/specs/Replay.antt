@@ -1,10 +1,11 @@
 -- Links of a replay, and the events and effects for which they stand.
 use Rattle.std.specs.Prelude.{◌≡◌, ℕ, suc, ◌+◌, ◌-◌, ◌^◌, ◌<◌, ◌⊎◌, nat_le, Bool, true, false, List, [], ◌∷◌, ◌++◌, length, take, map, Option, Some, None, option_map, Result, Ok, Err, if◌then◌else◌}
-use Rattle.vpn_base.specs.Files.{Holding, IsMissing}
+use Rattle.vpn_base.specs.Files.{Holding, Absent, IsMissing}
 use Rattle.vpn_base.specs.Sink.{appended}
 use Rattle.vpn_base.specs.declared.errors.Or.{Or}
 use Rattle.vpn_base.specs.declared.errors.Or.TheVariants.{Memory, Why}
 use Rattle.vpn_links.specs.Actions.{Action}
+use Rattle.vpn_links.specs.Faults.{Asking, Giving, LinkCall}
 use Rattle.vpn_links.specs.Rounds.{Given, Round}
 use Rattle.vpn_links.specs.declared.events.Event.{Event}
 use Rattle.vpn_links.specs.declared.events.Kind.TheVariants.{Halt}
@@ -19,10 +20,10 @@ use Rattle.replay_links.specs.Schedule.{Spelled, spells}
 
 -- ---- what stands behind them
 
--- the name of the schedule, what the files hold under it, and what the sink held at first
+-- the name of the schedule, what the files hold under each name, and what the sink held at first
 pub record Backing : Type 0 where
   pub name : List ℕ
-  pub holding : Holding
+  pub holds : List ℕ → Holding
   pub begun : Option (List ℕ)
 
 -- what was there before the last so many bytes
@@ -105,7 +106,7 @@ Came holding true text left fault came = IsFrontOf holding text × HasGiven (spe
 abbrev pub Caused : Holding → Bool → List Event → Option LineFault → Option ReplayEnd → Type 0
 Caused holding is_open left fault None = Unit {0}
 Caused holding is_open left fault (Some ends.Missing) = (is_open ≡ false) × IsMissing holding
-Caused holding is_open left fault (Some ends.Failed) = Unit {0}
+Caused holding is_open left fault (Some ends.Failed) = ¬ (holding ≡ Absent)
 Caused holding is_open left fault (Some (ends.Refused line kind)) = (is_open ≡ true) × (left ≡ []) × (fault ≡ Some (record { line = line; kind = kind }))
 
 -- a line was refused
@@ -130,7 +131,7 @@ ReplayStands holds contents r rounds = StandsFor (holds r.files r.name) (content
 
 -- what stands behind links of a replay
 abbrev pub backing_of : {F S : Type 0} → (F → List ℕ → Holding) → (S → Option (List ℕ)) → Replay F S → Backing
-backing_of holds contents r = record { name = r.name; holding = holds r.files r.name; begun = begun_of (contents r.out) r.written }
+backing_of holds contents r = record { name = r.name; holds = holds r.files; begun = begun_of (contents r.out) r.written }
 
 -- one more than the sink's failures as long as no line is cut, and then just those, unless they can't be counted any more: as it never falls, they rose where a line is cut
 abbrev pub before_cut : Bool → ℕ → ℕ
@@ -147,6 +148,13 @@ fault_count files out uncut missing refused _ = uncut
 -- the same of the links
 abbrev pub replay_faults : {F S : Type 0} → (F → ℕ) → (S → ℕ) → Replay F S → LinkFault → ℕ
 replay_faults files out r k = fault_count (files r.files) (out r.out) (before_cut r.is_cut (out r.out)) r.missing r.refused k
+
+-- their start never fails; asked for an event, they may have no file, or a line that is refused; given an effect, an output that fails
+abbrev pub MayFail : LinkCall → LinkFault → Type 0
+MayFail Asking faults.Input = Unit {0}
+MayFail Asking faults.Schedule = Unit {0}
+MayFail Giving faults.Output = Unit {0}
+MayFail call fault = ⊥
 
 -- why the last event did not come, after a call that asked for one
 abbrev pub EndsBy : {A : Type 0} → Result A (Or LinkFault) → Option ReplayEnd → Option ReplayEnd → Type 0

@@ -1,5 +1,5 @@
 -- What a schedule spells: events up to its end, or up to its first fault.
-use Rattle.std.specs.Prelude.{ℕ, ◌+◌, ◌^◌, nat_lt, Bool, true, false, List, [], ◌∷◌, ◌++◌, codes, take, Option, Some, None, Result, Ok, Err, if◌then◌else◌}
+use Rattle.std.specs.Prelude.{◌≡◌, ℕ, ◌+◌, ◌^◌, nat_lt, Bool, true, false, List, [], ◌∷◌, ◌++◌, codes, take, Option, Some, None, Result, Ok, Err, if◌then◌else◌}
 use Rattle.std.specs.Str.{bytes_eq}
 use Rattle.vpn_base.specs.Lines.{Line, content, lines_of, size}
 use Rattle.vpn_links.specs.declared.events.Event.{Event}
@@ -108,3 +108,12 @@ spells text = spelled_from (lines_of text) begun
 -- what a file spells: of one over its limit the first byte past that counts, and makes its line too long
 abbrev pub schedule_of : List ℕ → Spelled
 schedule_of held = spells (take (longest_file + 1) held)
+
+-- ---- a schedule that is spelled whole
+
+-- the last of these events ends the program
+pub record EndWithHalt (events : List Event) : Type 0 where
+  pub before : List Event
+  pub last : Event
+  pub all : events ≡ before ++ last ∷ []
+  pub halts : last.kind ≡ Halt

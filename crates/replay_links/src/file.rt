@@ -2,7 +2,7 @@
 
 ghost use Rattle.std.specs.Prelude.{◌≡◌, ◌<◌, ◌≤◌, ◌+◌, ◌^◌, ℕ, List, [], length, OnOk, IfOk, IfErr};
 ghost use Rattle.vpn_base.specs.Answers.{IfWhy, Rose};
-ghost use Rattle.vpn_base.specs.Files.{IsMissing};
+ghost use Rattle.vpn_base.specs.Files.{Absent, IsMissing};
 ghost use Rattle.vpn_base.specs.declared.outside.FileFault.{FileFault};
 ghost use Rattle.replay_links.specs.Fronts.{IsAll, IsFrontOf, ReadFrom};
 
@@ -29,6 +29,7 @@ fn read_piece<F: Files>(
     ensures more { IfOk result (λ n. length text.new.items ≡ length text.old.items + n) }
     ensures missing { IfErr result (λ e. IfWhy e (λ k. k ≡ FileFault.Missing → IsMissing (F.holds files.old name.now))) }
     ensures failed { IfErr result (λ e. IfWhy e (λ k. k ≡ FileFault.Failed → Rose (F.faults files.old) (F.faults files.new))) }
+    ensures there { IfErr result (λ e. IfWhy e (λ k. k ≡ FileFault.Failed → ¬ (F.holds files.old name.now ≡ Absent))) }
     ensures kept { (n : List ℕ) → F.holds files.new n ≡ F.holds files.old n }
     ensures never_falls { F.faults files.old ≤ F.faults files.new }
 {
@@ -54,6 +55,7 @@ fn read_pieces<F: Files>(
     ensures front { OnOk result (IsFrontOf (F.holds files.old name.now) text.new.items) }
     ensures missing { IfErr result (λ e. IfWhy e (λ k. k ≡ FileFault.Missing → IsMissing (F.holds files.old name.now))) }
     ensures failed { IfErr result (λ e. IfWhy e (λ k. k ≡ FileFault.Failed → Rose (F.faults files.old) (F.faults files.new))) }
+    ensures there { IfErr result (λ e. IfWhy e (λ k. k ≡ FileFault.Failed → ¬ (F.holds files.old name.now ≡ Absent))) }
     ensures kept { (n : List ℕ) → F.holds files.new n ≡ F.holds files.old n }
     ensures never_falls { F.faults files.old ≤ F.faults files.new }
 {
@@ -77,6 +79,7 @@ pub(crate) fn read_file<F: Files>(
     ensures front { IfOk result (λ text. IsFrontOf (F.holds files.old name.now) text.items) }
     ensures missing { IfErr result (λ e. IfWhy e (λ k. k ≡ FileFault.Missing → IsMissing (F.holds files.old name.now))) }
     ensures failed { IfErr result (λ e. IfWhy e (λ k. k ≡ FileFault.Failed → Rose (F.faults files.old) (F.faults files.new))) }
+    ensures there { IfErr result (λ e. IfWhy e (λ k. k ≡ FileFault.Failed → ¬ (F.holds files.old name.now ≡ Absent))) }
     ensures kept { (n : List ℕ) → F.holds files.new n ≡ F.holds files.old n }
     ensures never_falls { F.faults files.old ≤ F.faults files.new }
 {

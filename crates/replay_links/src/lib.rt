@@ -12,6 +12,7 @@ mod writing;
 pub use end::ReplayEnd;
 pub use links::{
     ReplayLinks, a_cut_is_a_failure, a_long_file_is_refused_where_it_passes_its_limit,
+    a_whole_schedule_ends_the_program,
 };
 pub use reading::{LONGEST_FILE, LineFault};
 

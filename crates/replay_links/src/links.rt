@@ -2,7 +2,7 @@
 
 ghost use Rattle.std.specs.Prelude.{◌≡◌, ◌+◌, ◌-◌, ◌<◌, ◌≤◌, ◌^◌, ◌++◌, ℕ, List, [], ◌∷◌, length, take, true, false, None, Some, MatchBool, MatchOption, IfOk, IfErr, OnOk, OnErr, Ok, Err, IsTrue, IfSome};
 ghost use Rattle.vpn_base.specs.Answers.{IfWhy, Rose};
-ghost use Rattle.vpn_base.specs.Files.{IsMissing};
+ghost use Rattle.vpn_base.specs.Files.{Absent, IsMissing};
 ghost use Rattle.vpn_base.specs.declared.errors.Or.{Or};
 ghost use Rattle.vpn_links.specs.Actions.{action, is_wire};
 ghost use Rattle.vpn_links.specs.Rounds.{IsOfLine, Round, after_give, came};
@@ -11,7 +11,7 @@ ghost use Rattle.vpn_links.specs.declared.events.Event.{Event};
 ghost use Rattle.vpn_links.specs.declared.links.LinkFault.{LinkFault};
 ghost use Rattle.replay_links.specs.Fronts.{IsFrontOf};
 ghost use Rattle.replay_links.specs.Replay.{before_cut};
-ghost use Rattle.replay_links.specs.Schedule.{schedule_of, spells};
+ghost use Rattle.replay_links.specs.Schedule.{EndWithHalt, schedule_of, spells};
 ghost use Rattle.replay_links.specs.declared.end.ReplayEnd.TheVariants as ends;
 ghost use Rattle.vpn_base.specs.declared.outside.FileFault.{FileFault};
 ghost use Rattle.vpn_links.specs.declared.events.Kind.TheVariants.{Halt};
@@ -79,7 +79,7 @@ impl<F: Files, S: Sink> ReplayLinks<F, S> {
         ensures parts { (result.files ≡ files) × (result.out ≡ out) × (result.name ≡ name) }
         ensures none { (result.missing ≡ 0) × (result.refused ≡ 0) × (result.ended ≡ None) }
         ensures stands { ReplayStands F.holds S.contents result [] }
-        ensures backing { backing_of F.holds S.contents result ≡ record { name = name; holding = F.holds files name; begun = S.contents out } }
+        ensures backing { backing_of F.holds S.contents result ≡ record { name = name; holds = F.holds files; begun = S.contents out } }
     {
         ReplayLinks {
             alloc,
@@ -144,6 +144,7 @@ fn read_schedule<F: Files>(
     ensures spelled { IfOk result (λ s. spells s.text.items ≡ record { events = s.events; fault = s.fault }) }
     ensures missing { IfErr result (λ e. IfWhy e (λ k. k ≡ FileFault.Missing → IsMissing (F.holds files.old name.now))) }
     ensures failed { IfErr result (λ e. IfWhy e (λ k. k ≡ FileFault.Failed → Rose (F.faults files.old) (F.faults files.new))) }
+    ensures there { IfErr result (λ e. IfWhy e (λ k. k ≡ FileFault.Failed → ¬ (F.holds files.old name.now ≡ Absent))) }
     ensures kept { (n : List ℕ) → F.holds files.new n ≡ F.holds files.old n }
     ensures never_falls { F.faults files.old ≤ F.faults files.new }
 {
@@ -328,7 +329,8 @@ fn replace(into: &mut Event, event: Event)
 }
 
 impl<F: Files, S: Sink> Links for ReplayLinks<F, S> {
-    ghost use Rattle.replay_links.specs.Replay.{EndsBy, Backing, ReplayStands, backing_of, replay_faults};
+    ghost use Rattle.vpn_links.specs.Faults.{Asking, Giving, Starting};
+    ghost use Rattle.replay_links.specs.Replay.{Backing, EndsBy, MayFail, ReplayStands, backing_of, replay_faults};
 
     ghost Origin = { Backing };
 
@@ -340,11 +342,14 @@ impl<F: Files, S: Sink> Links for ReplayLinks<F, S> {
 
     ghost faults = { λ r k. replay_faults F.faults S.faults r k };
 
+    ghost may_fail = { λ call k. MayFail call k };
+
     fn start(&mut self, plan: &Plan) -> Result<(), Or<LinkFault>>
         ensures started { OnOk result (Untold ≡ started_with Untold plan.now) }
         ensures refused { OnErr result (Untold ≡ Untold) }
         ensures rounds { (l : List Round) → ReplayStands F.holds S.contents self.old l → ReplayStands F.holds S.contents self.new l }
         ensures failed { IfErr result (λ e. IfWhy e (λ k. Rose (replay_faults F.faults S.faults self.old k) (replay_faults F.faults S.faults self.new k))) }
+        ensures may { IfErr result (λ e. IfWhy e (λ k. MayFail Starting k)) }
         ensures never_falls { (k : LinkFault) → replay_faults F.faults S.faults self.old k ≤ replay_faults F.faults S.faults self.new k }
         ensures origin { backing_of F.holds S.contents self.new ≡ backing_of F.holds S.contents self.old }
 
@@ -362,6 +367,7 @@ impl<F: Files, S: Sink> Links for ReplayLinks<F, S> {
         ensures never_wire { result ≡ Err (Or.Why LinkFault.Wire) → ⊥ }
         ensures started { Untold ≡ Untold }
         ensures failed { IfErr result (λ e. IfWhy e (λ k. Rose (replay_faults F.faults S.faults self.old k) (replay_faults F.faults S.faults self.new k))) }
+        ensures may { IfErr result (λ e. IfWhy e (λ k. MayFail Asking k)) }
         ensures never_falls { (k : LinkFault) → replay_faults F.faults S.faults self.old k ≤ replay_faults F.faults S.faults self.new k }
         ensures origin { backing_of F.holds S.contents self.new ≡ backing_of F.holds S.contents self.old }
 
@@ -384,6 +390,7 @@ impl<F: Files, S: Sink> Links for ReplayLinks<F, S> {
         ensures wire { result ≡ Err (Or.Why LinkFault.Wire) → IsTrue (is_wire (action e.now)) }
         ensures started { Untold ≡ Untold }
         ensures failed { IfErr result (λ e. IfWhy e (λ k. Rose (replay_faults F.faults S.faults self.old k) (replay_faults F.faults S.faults self.new k))) }
+        ensures may { IfErr result (λ e. IfWhy e (λ k. MayFail Giving k)) }
         ensures never_falls { (k : LinkFault) → replay_faults F.faults S.faults self.old k ≤ replay_faults F.faults S.faults self.new k }
         ensures origin { backing_of F.holds S.contents self.new ≡ backing_of F.holds S.contents self.old }
 
@@ -410,4 +417,9 @@ impl<F: Files, S: Sink> Links for ReplayLinks<F, S> {
 /// What a file spells is what its first 2^40 + 1 bytes spell: over its limit the line that passes it is too long.
 pub fn a_long_file_is_refused_where_it_passes_its_limit()
     ensures { (text : List ℕ) → schedule_of text ≡ spells text }
+{}
+
+/// Where no line of a schedule is refused, the last of its events is the end of the program.
+pub fn a_whole_schedule_ends_the_program()
+    ensures { (text : List ℕ) → (spells text).fault ≡ None → EndWithHalt (spells text).events }
 {}
