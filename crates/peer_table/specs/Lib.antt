@@ -9,3 +9,4 @@ pub mod Time
 pub mod Naming
 pub mod Outboxes
 pub mod Orderly
+pub mod Unnamed

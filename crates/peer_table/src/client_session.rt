@@ -15,9 +15,10 @@ ghost use Rattle.peer_table.specs.DataPackets.{data_came, sealed_to};
 ghost use Rattle.peer_table.specs.EngineAnswers.{engine_came, open_with};
 ghost use Rattle.peer_table.specs.Exchange.{NothingReadBefore, after_message, all_unread, first_conn, cipher_ahead, cipher_of, exchanged, most_unread, next_message};
 ghost use Rattle.peer_table.specs.KeySessions.{live_with, usable_with};
-ghost use Rattle.peer_table.specs.Naming.{number_of, place};
+ghost use Rattle.peer_table.specs.Naming.{number_of, place, place_numbered};
 ghost use Rattle.peer_table.specs.Outboxes.{GoesOnAfter, GoesOnUnlessOver, HasRoom, Uses, IsUnchanged, Leaves, LeavesSealed, LeavesUnless, TellsOpened, actions_of, incoming, message_seen};
 ghost use Rattle.peer_table.specs.Time.{closings, ticked, ticking};
+ghost use Rattle.peer_table.specs.Unnamed.{NameComesFirst};
 
 use crate::outcomes::{Message, Refused, SessionFault, Turn};
 use opcode_codec::ControlView;
@@ -55,6 +56,10 @@ pub trait ClientSession {
 
     /// Nothing is read of a key session's plain text before its key exchange.
     ghost nothing_read_before: { (s : Self) (p : Peer) → stands s p → NothingReadBefore p.sessions };
+
+    /// Until the client's name is known, no key session is beyond its first stage: none is prepared for its key
+    /// exchange, and none has keys.
+    ghost name_comes_first: { (s : Self) (p : Peer) → stands s p → NameComesFirst p };
 
     /// A session whose key session 0 begins on this connection, which is opened, at this moment in milliseconds.
     /// The own session id, the timers and the half of the static key for this role are those of its packets.
@@ -256,6 +261,10 @@ pub trait ClientSession {
     /// The open key session with this key id, if there is one.
     fn place(&self, kid: u8) -> Option<Place>
         ensures { (p : Peer) → stands self.now p → result ≡ place kid p };
+
+    /// The key session of this number, if there is one.
+    fn place_numbered(&self, number: u64) -> Option<Place>
+        ensures { (p : Peer) → stands self.now p → result ≡ place_numbered number p };
 
     /// The greatest number of plain text bytes that an open key session has not read.
     fn unread(&self) -> usize
