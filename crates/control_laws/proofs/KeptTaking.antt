@@ -2,6 +2,7 @@
 use Rattle.std.proofs.Common.{◌≡◌, ◌+◌, ℕ, suc, true, [], ◌∷◌, length, Option, Some, None, refl, sym, ap, ◌∙◌, subst, add-zero, append_assoc, Result, Ok, Err}
 use Rattle.std.specs.Prelude.{slice_get, option_map}
 use Rattle.vpn_base.specs.declared.names.Freshness.TheVariants.{Fresh}
+use Rattle.vpn_base.specs.declared.names.Place.{Place}
 use Rattle.vpn_links.specs.Actions.{EngineOpen, Report}
 use Rattle.vpn_links.specs.declared.notes.Note.TheVariants as notes
 use Rattle.reliable_recv.specs.Receiving.{Arrival, begun}
@@ -20,7 +21,7 @@ use Rattle.server_table.specs.Table.{Client, Table}
 use Rattle.server_table.specs.Lookups.{cid, client_here}
 use Rattle.server_table.specs.Courses.{Course, acted, client_changed}
 use Rattle.server_table.specs.DataDatagrams.{went_to}
-use Rattle.server_table.specs.ControlDatagrams.{ControlPacket, control_answered, control_for, control_session, incoming, to_client, with_fresh}
+use Rattle.server_table.specs.ControlDatagrams.{ControlPacket, control_answered, control_for, control_place, incoming, to_client, with_fresh}
 use Rattle.control_laws.specs.internal.LinkReads.{LinkReads}
 use Rattle.control_laws.proofs.Calls.{are_still, next_put, none_next}
 use Rattle.control_laws.proofs.Came.{Began, ControlCame, NotTaken, Took, what_came}
@@ -108,21 +109,21 @@ module _ (reads : LinkReads) (up : IsReadUp begun) {brought : ℕ → ℕ → Ar
       subst (λ o. Kept brought base (acted n x.address o c)) (sym came)
       (began_acted r n x c here (brings (length x.session.sessions) (record { fresh = fresh; placed = FoundNext none begins refl })) is)
 
-  answered_kept : (n : ℕ) (x : Client) (i : Incoming) (c : Course) (answer : Result Turn Refused) → Kept brought base c → Kept brought base (control_answered n x i c answer)
-  answered_kept n x i c (Ok turn) is =
-      let d = record c { table = went_to n (Some (control_session i x.session)) c.table } in
+  answered_kept : (n : ℕ) (to : Option Place) (c : Course) (answer : Result Turn Refused) → Kept brought base c → Kept brought base (control_answered n to c answer)
+  answered_kept n to c (Ok turn) is =
+      let d = record c { table = went_to to c.table } in
       turned_kept n turn (client_changed n (with_fresh c.table.moment) d) (same_kept c.table.clients n (with_fresh c.table.moment) (λ y. refl) is)
-  answered_kept n x i c (Err (BadKey kid)) is =
+  answered_kept n to c (Err (BadKey kid)) is =
       did_kept (Report (notes.BadKey (cid n) kid)) (client_changed n (with_fresh c.table.moment) c) refl
       (same_kept c.table.clients n (with_fresh c.table.moment) (λ y. refl) is)
-  answered_kept n x i c (Err (Replayed time id)) is = did_kept (Report (notes.Replayed time id)) c refl is
+  answered_kept n to c (Err (Replayed time id)) is = did_kept (Report (notes.Replayed time id)) c refl is
 
   control_for_kept : (r : ControlPacket) (n : ℕ) (c : Course) (x : Option Client) → client_here c.table n ≡ x →
       ((x : Client) → client_here c.table n ≡ Some x → BringsTo brought n r c.table x) → Kept brought base c → Kept brought base (control_for r n c x)
   control_for_kept r n c None here brings is = is
   control_for_kept r n c (Some x) here brings is =
       let o = control_came x.session (incoming r c x) in
-      answered_kept n x (incoming r c x) (acted n x.address o c) o.answer
+      answered_kept n (control_place (incoming r c x) x.session o.peer) (acted n x.address o c) o.answer
       (came_acted r n x c o here (brings x here) (what_came x.session (incoming r c x)) is)
 
   pub to_client_kept : (r : ControlPacket) (n : ℕ) (c : Course) → ((x : Client) → client_here c.table n ≡ Some x → BringsTo brought n r c.table x) →

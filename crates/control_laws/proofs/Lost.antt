@@ -7,6 +7,7 @@ use Rattle.vpn_base.specs.declared.address.Addr.{Addr}
 use Rattle.vpn_base.specs.declared.names.Cause.{Cause}
 use Rattle.vpn_base.specs.declared.names.Draw.{Draw}
 use Rattle.vpn_base.specs.declared.names.Freshness.TheVariants.{Fresh, Zero}
+use Rattle.vpn_base.specs.declared.names.Place.{Place}
 use Rattle.vpn_base.specs.declared.names.Sid.{Sid}
 use Rattle.vpn_links.specs.declared.events.Event.{Event}
 use Rattle.vpn_links.specs.declared.events.Kind.{Kind}
@@ -25,7 +26,7 @@ use Rattle.peer_table.specs.declared.outcomes.Refused.{Refused}
 use Rattle.peer_table.specs.declared.outcomes.Refused.TheVariants.{Replayed, BadKey}
 use Rattle.peer_table.specs.declared.outcomes.Turn.{Turn}
 use Rattle.peer_table.specs.declared.outcomes.Turn.TheVariants.{Going, Ignored, Named, Exchange, Over}
-use Rattle.peer_table.specs.ControlPackets.{Incoming, begun_by, control_came, judged, next_session, placed, sender, sid_of, taken_as, taken_by, with_next}
+use Rattle.peer_table.specs.ControlPackets.{begun_by, control_came, judged, next_session, placed, sender, sid_of, taken_as, taken_by, with_next}
 use Rattle.peer_table.specs.KeySessions.{Session, kid_of, live_with, usable}
 use Rattle.peer_table.specs.Peer.{Outcome, Peer, began}
 use Rattle.peer_table.specs.Places.{changed_at, first_place}
@@ -34,7 +35,7 @@ use Rattle.server_table.specs.Lookups.{by_session, client_here, has_session, if_
 use Rattle.server_table.specs.Courses.{Course, acted, reported}
 use Rattle.server_table.specs.DataDatagrams.{FromWire}
 use Rattle.server_table.specs.Endings.{ended, ended_as, gone, turned}
-use Rattle.server_table.specs.ControlDatagrams.{ControlPacket, admitted, admitted_unless_full, begins_client, client_begun, client_wraps, control_acted, control_answered, control_arrived, control_at, control_for, control_read, control_unwrapped, incoming, of_nobody, opened_for, session_begun, to_client, with_fresh}
+use Rattle.server_table.specs.ControlDatagrams.{ControlPacket, admitted, admitted_unless_full, begins_client, client_begun, client_wraps, control_acted, control_answered, control_arrived, control_at, control_for, control_place, control_read, control_unwrapped, incoming, of_nobody, opened_for, session_begun, to_client, with_fresh}
 use Rattle.server_table.specs.Sound.{AreOrderly, AtMostOne, IsSound}
 use Rattle.server_table.specs.Step.{came, course_begun, datagram_as, is_over, step, step_if}
 use Rattle.control_laws.specs.Sessions.{session_in, session_of, taken_in}
@@ -68,10 +69,10 @@ turned_lines n (Over cause) c = ended_lines n cause c
 fresh_lines : (n now : ℕ) (clients : List Client) → lines_of (changed_at n (with_fresh now) clients) ≡ lines_of clients
 fresh_lines n now clients = map_changed client_lines n (with_fresh now) clients (λ y there. refl)
 
-answered_lines : (n : ℕ) (x : Client) (i : Incoming) (c : Course) (answer : Result Turn Refused) → lines_of (control_answered n x i c answer).table.clients ≡ lines_of c.table.clients
-answered_lines n x i c (Ok turn) = turned_lines n turn _ ∙ fresh_lines n c.table.moment c.table.clients
-answered_lines n x i c (Err (BadKey kid)) = fresh_lines n c.table.moment c.table.clients
-answered_lines n x i c (Err (Replayed time id)) = refl
+answered_lines : (n : ℕ) (to : Option Place) (c : Course) (answer : Result Turn Refused) → lines_of (control_answered n to c answer).table.clients ≡ lines_of c.table.clients
+answered_lines n to c (Ok turn) = turned_lines n turn _ ∙ fresh_lines n c.table.moment c.table.clients
+answered_lines n to c (Err (BadKey kid)) = fresh_lines n c.table.moment c.table.clients
+answered_lines n to c (Err (Replayed time id)) = refl
 
 -- ---- the client of a number takes a packet
 
@@ -156,7 +157,7 @@ module _ (reads : LinkReads) (up : IsReadUp begun) where
       let t = placed_took r c x k fresh place waits in
       subst (λ y. TookLine (lines_of (control_for r n c y).table.clients) n k (taken_in (slice_get x.session.sessions k)) r) (sym here)
       (moved_line (lines_of (acted n x.address o c).table.clients) (lines_of (control_acted n x (incoming r c x) c o).table.clients) n k (taken_in (slice_get x.session.sessions k)) r
-      (answered_lines n x (incoming r c x) (acted n x.address o c) o.answer)
+      (answered_lines n (control_place (incoming r c x) x.session o.peer) (acted n x.address o c) o.answer)
       (record { line = t.line; there = acted_line c.table.clients n k x o.peer t.line there t.there; took_it = t.took_it }))
 
 -- ---- who is found

@@ -6,6 +6,7 @@ use Rattle.vpn_base.specs.declared.address.Ip4.{Ip4}
 use Rattle.vpn_base.specs.declared.names.Cause.{Cause}
 use Rattle.vpn_base.specs.declared.names.Conn.{Conn}
 use Rattle.vpn_base.specs.declared.names.Draw.{Draw}
+use Rattle.vpn_base.specs.declared.names.Place.{Place}
 use Rattle.vpn_links.specs.Actions.{Action, Device, Report}
 use Rattle.vpn_links.specs.declared.notes.Note.{Note}
 use Rattle.ccd_files.specs.declared.client_file.Ccd.{Ccd}
@@ -22,6 +23,7 @@ use Rattle.server_table.specs.Endings.{ended, ended_as, turned}
 use Rattle.server_table.specs.Establishing.{Leased, established_at}
 use Rattle.server_table.specs.InnerPackets.{most_queued, sealed_with}
 use Rattle.server_table.specs.ControlDatagrams.{client_begun, session_begun, with_admitted}
+use Rattle.server_table.specs.DataDatagrams.{went_to}
 use Rattle.server_laws.specs.HandedOn.{carrying}
 use Rattle.server_laws.specs.WellKept.{HaveKeys}
 use Rattle.server_laws.proofs.Places.{none_some, some_same}
@@ -75,8 +77,8 @@ pub record IsReady (x : Client) : Type 0 where
 -- ends, is established, is admitted.
 pub record IsClosed (P : Course → Type 0) : Type 0 where
   pub quiet : (actions : List Action) (c : Course) → carrying actions ≡ [] → P c → P (did_all actions c)
-  pub other : (went : Option (ℕ × ℕ)) (counted into outof : ℕ) (stopped : Bool) (c : Course) → P c →
-      P (record c { table = record c.table { last_taken = went; counted_at = counted; bytes_in = into; bytes_out = outof; is_stopped = stopped } })
+  pub other : (counted into outof : ℕ) (stopped : Bool) (c : Course) → P c →
+      P (record c { table = record c.table { counted_at = counted; bytes_in = into; bytes_out = outof; is_stopped = stopped } })
   pub acts : (n : ℕ) (x : Client) (o : Outcome Turn) (c : Course) → client_here c.table n ≡ Some x → CallKept x.session o.peer → P c → P (acted n x.address o c)
   pub exchanges : (n : ℕ) (x : Client) (ccd : Ccd) (o : Outcome Turn) (c : Course) → client_here c.table n ≡ Some x → x.file ≡ Known ccd →
       ExchangeKept x.peer_id x.session o.peer → P c → P (acted n x.address o c)
@@ -86,6 +88,10 @@ pub record IsClosed (P : Course → Type 0) : Type 0 where
   pub establishes : (n : ℕ) (conn : Conn) (x : Client) (l : Leased) (c : Course) → client_here c.table n ≡ Some x → IsReady x → P c →
       P (established_at n conn x c l)
   pub admits : (from : Addr) (draw : Draw) (c : Course) → P c → P (with_admitted (client_begun c.table from (session_begun c.table draw).peer) c)
+
+-- a datagram goes to a key session
+abbrev pub Goes : (Course → Type 0) → Type 0
+Goes P = (to : Option Place) (c : Course) → P c → P (record c { table = went_to to c.table })
 
 -- this packet is sealed to a client
 pub record SealsOf (P : Course → Type 0) (inner : List ℕ) : Type 0 where

@@ -5,6 +5,7 @@ use Rattle.vpn_base.specs.declared.address.Addr.{Addr}
 use Rattle.vpn_base.specs.declared.address.Ip4.{Ip4}
 use Rattle.vpn_base.specs.declared.names.Draw.{Draw}
 use Rattle.vpn_base.specs.declared.names.Malformed.{Malformed}
+use Rattle.vpn_base.specs.declared.names.Place.{Place}
 use Rattle.vpn_links.specs.Actions.{Action, Report, Say, Stop}
 use Rattle.vpn_links.specs.declared.notes.Note.TheVariants as notes
 use Rattle.opcode_codec.specs.ControlText.{ControlForm, control_of}
@@ -23,7 +24,7 @@ use Rattle.peer_table.specs.declared.outcomes.Refused.TheVariants.{Replayed, Bad
 use Rattle.peer_table.specs.declared.outcomes.SessionFault.{SessionFault}
 use Rattle.peer_table.specs.declared.outcomes.SessionFault.TheVariants as faults
 use Rattle.peer_table.specs.declared.outcomes.Turn.{Turn}
-use Rattle.peer_table.specs.ControlPackets.{Incoming, control_came, sid_of}
+use Rattle.peer_table.specs.ControlPackets.{control_came, sid_of}
 use Rattle.peer_table.specs.DataPackets as packets
 use Rattle.peer_table.specs.Peer.{Peer}
 use Rattle.peer_table.specs.Time.{ticked}
@@ -31,15 +32,15 @@ use Rattle.server_table.specs.Table.{Client}
 use Rattle.server_table.specs.Lookups.{by_peer_id, by_session, cid, client_here, is_address, is_full}
 use Rattle.server_table.specs.Courses.{Course, acted, client_changed}
 use Rattle.server_table.specs.Endings.{turned}
-use Rattle.server_table.specs.ControlDatagrams.{ControlPacket, admitted, admitted_unless_full, begins_client, client_begun, client_wraps, control_answered, control_arrived, control_at, control_for, control_read, control_session, control_unwrapped, first_of, incoming, of_nobody, session_begun, to_client, with_admitted, with_fresh}
-use Rattle.server_table.specs.DataDatagrams.{FromWire, accepted, carried, carried_as, data_at, data_came, data_for, data_session, is_taken, moved, moved_if, opened_as, passed, ping, refused, went_to, with_opened}
+use Rattle.server_table.specs.ControlDatagrams.{ControlPacket, admitted, admitted_unless_full, begins_client, client_begun, client_wraps, control_answered, control_arrived, control_at, control_for, control_read, control_place, control_unwrapped, first_of, incoming, of_nobody, session_begun, to_client, with_admitted, with_fresh}
+use Rattle.server_table.specs.DataDatagrams.{FromWire, accepted, carried, carried_as, data_at, data_came, data_for, data_place, is_taken, moved, moved_if, opened_as, passed, ping, refused, went_to, with_opened}
 use Rattle.server_table.specs.InnerPackets.{dequeued, device_ready, is_host_of, learned, learned_unless_lacking, learned_where, most_queued, queued, queued_unless_full, sealed_for, sealed_to}
 use Rattle.server_table.specs.Step.{device_came, device_passed, halted, line_came, line_said}
 use Rattle.server_table.specs.Time.{client_ticked, clients_ticked, count_line_if, count_lines, counts_are_due, is_counted, ping_is_due, pinged, pinged_if, tick, tick_for, ticking_for, told_counts}
 use Rattle.server_laws.specs.HandedOn.{carrying}
 use Rattle.server_laws.proofs.Places.{get_last}
 use Rattle.server_laws.proofs.CallsKeep.{call_same, control_call, data_call, tick_call}
-use Rattle.server_laws.proofs.Closed.{DealsWith, IsClosed, SealsOf, acted_kept, altered, here_from, reported_kept, turned_kept}
+use Rattle.server_laws.proofs.Closed.{DealsWith, Goes, IsClosed, SealsOf, acted_kept, altered, here_from, reported_kept, turned_kept}
 use Rattle.server_laws.proofs.Verdicts.{owned_to_client, owned_to_device}
 
 -- ---- byte counts
@@ -59,70 +60,67 @@ last_here from c peer =
     (get_last c.table.clients (client_begun c.table from peer)) refl
 
 module _ {P : Course → Type 0} (closed : IsClosed P) where
-  -- the datagram went to a session
-  went_kept : (n : ℕ) (k : Option ℕ) (c : Course) → P c → P (record c { table = went_to n k c.table })
-  went_kept n k c is = closed.other (went_to n k c.table).last_taken c.table.counted_at c.table.bytes_in c.table.bytes_out c.table.is_stopped c is
-
   -- ---- a control packet
 
-  fresh_kept : (n now : ℕ) (c : Course) → P c → P (client_changed n (with_fresh now) c)
-  fresh_kept n now c is = closed.alters n (with_fresh now) c (λ y there. record { here = refl; peer_id = refl; established = refl; session = call_same y.session; file = λ ccd e. e }) is
+  module _ (goes : Goes P) where
+    fresh_kept : (n now : ℕ) (c : Course) → P c → P (client_changed n (with_fresh now) c)
+    fresh_kept n now c is = closed.alters n (with_fresh now) c (λ y there. record { here = refl; peer_id = refl; established = refl; session = call_same y.session; file = λ ccd e. e }) is
 
-  pub answered_kept : (n : ℕ) (x : Client) (i : Incoming) (c : Course) (answer : Result Turn Refused) → P c → P (control_answered n x i c answer)
-  answered_kept n x i c (Ok turn) is =
-      let d : Course = record c { table = went_to n (Some (control_session i x.session)) c.table } in
-      turned_kept closed n turn (client_changed n (with_fresh c.table.moment) d) (fresh_kept n c.table.moment d (went_kept n (Some (control_session i x.session)) c is))
-  answered_kept n x i c (Err (BadKey kid)) is =
-      reported_kept closed (notes.BadKey (cid n) kid) (client_changed n (with_fresh c.table.moment) c) (fresh_kept n c.table.moment c is)
-  answered_kept n x i c (Err (Replayed time id)) is = reported_kept closed (notes.Replayed time id) c is
+    pub answered_kept : (n : ℕ) (to : Option Place) (c : Course) (answer : Result Turn Refused) → P c → P (control_answered n to c answer)
+    answered_kept n to c (Ok turn) is =
+        let d : Course = record c { table = went_to to c.table } in
+        turned_kept closed n turn (client_changed n (with_fresh c.table.moment) d) (fresh_kept n c.table.moment d (goes to c is))
+    answered_kept n to c (Err (BadKey kid)) is =
+        reported_kept closed (notes.BadKey (cid n) kid) (client_changed n (with_fresh c.table.moment) c) (fresh_kept n c.table.moment c is)
+    answered_kept n to c (Err (Replayed time id)) is = reported_kept closed (notes.Replayed time id) c is
 
-  control_for_kept : (r : ControlPacket) (n : ℕ) (c : Course) (x : Option Client) → client_here c.table n ≡ x → P c → P (control_for r n c x)
-  control_for_kept r n c None here is = is
-  control_for_kept r n c (Some x) here is =
-      let i = incoming r c x in
-      let o = control_came x.session i in
-      answered_kept n x i (acted n x.address o c) o.answer (acted_kept closed n x o c here (control_call x.session i) is)
+    control_for_kept : (r : ControlPacket) (n : ℕ) (c : Course) (x : Option Client) → client_here c.table n ≡ x → P c → P (control_for r n c x)
+    control_for_kept r n c None here is = is
+    control_for_kept r n c (Some x) here is =
+        let i = incoming r c x in
+        let o = control_came x.session i in
+        answered_kept n (control_place i x.session o.peer) (acted n x.address o c) o.answer (acted_kept closed n x o c here (control_call x.session i) is)
 
-  to_client_kept : (r : ControlPacket) (n : ℕ) (c : Course) → P c → P (to_client r n c)
-  unfolding to_client
-  to_client_kept r n c is = control_for_kept r n c (client_here c.table n) refl is
+    to_client_kept : (r : ControlPacket) (n : ℕ) (c : Course) → P c → P (to_client r n c)
+    unfolding to_client
+    to_client_kept r n c is = control_for_kept r n c (client_here c.table n) refl is
 
-  admitted_kept : (d : FromWire) (draw : Draw) (r : ControlPacket) (c : Course) → P c → P (admitted d draw r c)
-  admitted_kept d draw r c is =
-      let o = session_begun c.table draw in
-      let x = client_begun c.table d.from o.peer in
-      let e = with_admitted x c in
-      to_client_kept r (length c.table.clients) (acted (length c.table.clients) d.from o e)
-      (closed.acts (length c.table.clients) x o e (last_here d.from c o.peer) (call_same o.peer) (closed.admits d.from draw c is))
+    admitted_kept : (d : FromWire) (draw : Draw) (r : ControlPacket) (c : Course) → P c → P (admitted d draw r c)
+    admitted_kept d draw r c is =
+        let o = session_begun c.table draw in
+        let x = client_begun c.table d.from o.peer in
+        let e = with_admitted x c in
+        to_client_kept r (length c.table.clients) (acted (length c.table.clients) d.from o e)
+        (closed.acts (length c.table.clients) x o e (last_here d.from c o.peer) (call_same o.peer) (closed.admits d.from draw c is))
 
-  wrapped_kept : (d : FromWire) (draw : Draw) (r : ControlPacket) (c : Course) (b : Bool) → P c →
-      P (if b then (let e : Course = record c { effects = c.effects ++ Report (notes.Replayed r.packet.time r.packet.id) ∷ [] } in e) else admitted d draw r c)
-  wrapped_kept d draw r c true is = reported_kept closed (notes.Replayed r.packet.time r.packet.id) c is
-  wrapped_kept d draw r c false is = admitted_kept d draw r c is
+    wrapped_kept : (d : FromWire) (draw : Draw) (r : ControlPacket) (c : Course) (b : Bool) → P c →
+        P (if b then (let e : Course = record c { effects = c.effects ++ Report (notes.Replayed r.packet.time r.packet.id) ∷ [] } in e) else admitted d draw r c)
+    wrapped_kept d draw r c true is = reported_kept closed (notes.Replayed r.packet.time r.packet.id) c is
+    wrapped_kept d draw r c false is = admitted_kept d draw r c is
 
-  unless_full_kept : (d : FromWire) (draw : Draw) (r : ControlPacket) (c : Course) (b : Bool) → P c → P (admitted_unless_full d draw r c b)
-  unless_full_kept d draw r c true is = reported_kept closed (notes.Full c.table.settings.max_clients) c is
-  unless_full_kept d draw r c false is = wrapped_kept d draw r c (r.packet.id == 0) is
+    unless_full_kept : (d : FromWire) (draw : Draw) (r : ControlPacket) (c : Course) (b : Bool) → P c → P (admitted_unless_full d draw r c b)
+    unless_full_kept d draw r c true is = reported_kept closed (notes.Full c.table.settings.max_clients) c is
+    unless_full_kept d draw r c false is = wrapped_kept d draw r c (r.packet.id == 0) is
 
-  nobody_kept : (d : FromWire) (draw : Draw) (r : ControlPacket) (c : Course) (b : Bool) → P c → P (of_nobody d draw r c b)
-  nobody_kept d draw r c true is = unless_full_kept d draw r c (is_full c.table) is
-  nobody_kept d draw r c false is = reported_kept closed (notes.UnknownSession (sid_of r.packet)) c is
+    nobody_kept : (d : FromWire) (draw : Draw) (r : ControlPacket) (c : Course) (b : Bool) → P c → P (of_nobody d draw r c b)
+    nobody_kept d draw r c true is = unless_full_kept d draw r c (is_full c.table) is
+    nobody_kept d draw r c false is = reported_kept closed (notes.UnknownSession (sid_of r.packet)) c is
 
-  at_kept : (d : FromWire) (draw : Draw) (op : Opcode) (r : ControlPacket) (c : Course) (n : Option ℕ) → P c → P (control_at d draw op r c n)
-  at_kept d draw op r c (Some n) is = to_client_kept r n c is
-  at_kept d draw op r c None is = nobody_kept d draw r c (begins_client op r) is
+    at_kept : (d : FromWire) (draw : Draw) (op : Opcode) (r : ControlPacket) (c : Course) (n : Option ℕ) → P c → P (control_at d draw op r c n)
+    at_kept d draw op r c (Some n) is = to_client_kept r n c is
+    at_kept d draw op r c None is = nobody_kept d draw r c (begins_client op r) is
 
-  read_kept : (d : FromWire) (draw : Draw) (op : Opcode) (p : Packet) (c : Course) (form : Result ControlForm Malformed) → P c → P (control_read d draw op p c form)
-  read_kept d draw op p c (Err e) is = reported_kept closed (notes.Malformed e (first_of d.bytes)) c is
-  read_kept d draw op p c (Ok form) is = at_kept d draw op (record { packet = p; form = form }) c (by_session c.table d.from (sid_of p)) is
+    read_kept : (d : FromWire) (draw : Draw) (op : Opcode) (p : Packet) (c : Course) (form : Result ControlForm Malformed) → P c → P (control_read d draw op p c form)
+    read_kept d draw op p c (Err e) is = reported_kept closed (notes.Malformed e (first_of d.bytes)) c is
+    read_kept d draw op p c (Ok form) is = at_kept d draw op (record { packet = p; form = form }) c (by_session c.table d.from (sid_of p)) is
 
-  unwrapped_kept : (d : FromWire) (draw : Draw) (op : Opcode) (c : Course) (p : Option Packet) → P c → P (control_unwrapped d draw op c p)
-  unwrapped_kept d draw op c None is = reported_kept closed notes.NotWrapped c is
-  unwrapped_kept d draw op c (Some p) is = read_kept d draw op p c (control_of op p.plain) is
+    unwrapped_kept : (d : FromWire) (draw : Draw) (op : Opcode) (c : Course) (p : Option Packet) → P c → P (control_unwrapped d draw op c p)
+    unwrapped_kept d draw op c None is = reported_kept closed notes.NotWrapped c is
+    unwrapped_kept d draw op c (Some p) is = read_kept d draw op p c (control_of op p.plain) is
 
-  pub arrived_kept : (d : FromWire) (draw : Draw) (op : Opcode) (c : Course) → P c → P (control_arrived d draw op c)
-  unfolding control_arrived
-  arrived_kept d draw op c is = unwrapped_kept d draw op c (unwrapping (client_wraps c.table) d.bytes) is
+    pub arrived_kept : (d : FromWire) (draw : Draw) (op : Opcode) (c : Course) → P c → P (control_arrived d draw op c)
+    unfolding control_arrived
+    arrived_kept d draw op c is = unwrapped_kept d draw op c (unwrapping (client_wraps c.table) d.bytes) is
 
   -- ---- lines, and the end
 
@@ -137,7 +135,7 @@ module _ {P : Course → Type 0} (closed : IsClosed P) where
   pub halted_kept : (c : Course) → P c → P (halted c)
   halted_kept c is =
       let d : Course = record c { table = record c.table { is_stopped = true } } in
-      closed.quiet (Stop ∷ []) d refl (closed.other c.table.last_taken c.table.counted_at c.table.bytes_in c.table.bytes_out true c is)
+      closed.quiet (Stop ∷ []) d refl (closed.other c.table.counted_at c.table.bytes_in c.table.bytes_out true c is)
 
   -- ---- sealing
 
@@ -182,7 +180,7 @@ module _ {P : Course → Type 0} (closed : IsClosed P) where
     told_counts_kept c true is =
         let d : Course = record c { table = record c.table { counted_at = c.table.moment } } in
         closed.quiet (count_lines 0 c.table.clients) d (lines_quiet 0 c.table.clients)
-        (closed.other c.table.last_taken c.table.moment c.table.bytes_in c.table.bytes_out c.table.is_stopped c is)
+        (closed.other c.table.moment c.table.bytes_in c.table.bytes_out c.table.is_stopped c is)
 
     pub tick_course_kept : (c : Course) → P c → P (tick c)
     unfolding tick
@@ -192,20 +190,21 @@ module _ {P : Course → Type 0} (closed : IsClosed P) where
 
   -- ---- a data packet, up to where it is carried
 
-  pub accepted_kept : (d : FromWire) (n : ℕ) (x : Client) (c : Course) → client_here c.table n ≡ Some x → P c →
+  pub accepted_kept : Goes P → (d : FromWire) (n : ℕ) (x : Client) (c : Course) → client_here c.table n ≡ Some x → P c →
       P (accepted d n x c (packets.data_came d.bytes (record { 0 = c.table.moment }) x.session).peer)
-  accepted_kept d n x c here is =
+  accepted_kept goes d n x c here is =
       let peer = (packets.data_came d.bytes (record { 0 = c.table.moment }) x.session).peer in
       let f : Client → Client = with_opened c.table.moment peer (length d.bytes) in
+      let d1 : Course = client_changed n f c in
       let e = accepted d n x c peer in
-      closed.other e.table.last_taken e.table.counted_at e.table.bytes_in e.table.bytes_out e.table.is_stopped (client_changed n f c)
-      (altered closed n x f c here (record {
+      closed.other e.table.counted_at e.table.bytes_in e.table.bytes_out e.table.is_stopped (record d1 { table = went_to (data_place c.table.moment d.bytes x.session) d1.table })
+      (goes (data_place c.table.moment d.bytes x.session) d1 (altered closed n x f c here (record {
         here = refl;
         peer_id = refl;
         established = refl;
         session = data_call d.bytes (record { 0 = c.table.moment }) x.session;
         file = λ ccd e. e;
-      }) is)
+      }) is))
 
   moved_if_kept : (n : ℕ) (from : Addr) (c : Course) (b : Bool) → P c → P (moved_if n from c b)
   moved_if_kept n from c false is = is
@@ -217,12 +216,12 @@ module _ {P : Course → Type 0} (closed : IsClosed P) where
   pub moved_kept : (n : ℕ) (from : Addr) (x : Client) (c : Course) → P c → P (moved n from x c)
   moved_kept n from x c is = moved_if_kept n from c (not (is_address x.address from) && not (is_taken c.table n from x.session.remote)) is
 
-  pub refused_kept : (d : FromWire) (n : ℕ) (x : Client) (c : Course) (fault : SessionFault) → P c → P (refused d n x c fault)
-  refused_kept d n x c (faults.BadKey kid) is = reported_kept closed (notes.BadKey (cid n) kid) c is
-  refused_kept d n x c faults.NotSealed is = reported_kept closed (notes.NotSealed (cid n)) c is
-  refused_kept d n x c (faults.Stale kind id greatest) is =
-      reported_kept closed (notes.Stale (cid n) kind id greatest) (record c { table = went_to n (data_session c.table x d.bytes) c.table })
-      (went_kept n (data_session c.table x d.bytes) c is)
+  pub refused_kept : Goes P → (d : FromWire) (n : ℕ) (x : Client) (c : Course) (fault : SessionFault) → P c → P (refused d n x c fault)
+  refused_kept goes d n x c (faults.BadKey kid) is = reported_kept closed (notes.BadKey (cid n) kid) c is
+  refused_kept goes d n x c faults.NotSealed is = reported_kept closed (notes.NotSealed (cid n)) c is
+  refused_kept goes d n x c (faults.Stale kind id greatest) is =
+      reported_kept closed (notes.Stale (cid n) kind id greatest) (record c { table = went_to (data_place c.table.moment d.bytes x.session) c.table })
+      (goes (data_place c.table.moment d.bytes x.session) c is)
 
   -- ---- where packets go
 
@@ -278,24 +277,24 @@ module _ {P : Course → Type 0} (closed : IsClosed P) where
     unfolding carried
     carried_kept lacks n inner c is = carried_as_kept lacks n inner c (bytes_eq inner ping) is
 
-    opened_as_kept : (d : FromWire) (n : ℕ) (x : Client) (c : Course) (r : Result (List ℕ) SessionFault) → client_here c.table n ≡ Some x → P c →
+    opened_as_kept : Goes P → (d : FromWire) (n : ℕ) (x : Client) (c : Course) (r : Result (List ℕ) SessionFault) → client_here c.table n ≡ Some x → P c →
         P (opened_as d n x c (packets.data_came d.bytes (record { 0 = c.table.moment }) x.session).peer r)
-    opened_as_kept d n x c (Err fault) here is = refused_kept d n x c fault is
-    opened_as_kept d n x c (Ok inner) here is =
+    opened_as_kept goes d n x c (Err fault) here is = refused_kept goes d n x c fault is
+    opened_as_kept goes d n x c (Ok inner) here is =
         let e = accepted d n x c (packets.data_came d.bytes (record { 0 = c.table.moment }) x.session).peer in
-        carried_kept d.lacks n inner (moved n d.from x e) (moved_kept n d.from x e (accepted_kept d n x c here is))
+        carried_kept d.lacks n inner (moved n d.from x e) (moved_kept n d.from x e (accepted_kept goes d n x c here is))
 
-    data_for_kept : (d : FromWire) (n : ℕ) (c : Course) (x : Option Client) → client_here c.table n ≡ x → P c → P (data_for d n c x)
-    data_for_kept d n c None here is = is
-    data_for_kept d n c (Some x) here is = opened_as_kept d n x c (packets.data_came d.bytes (record { 0 = c.table.moment }) x.session).answer here is
+    data_for_kept : Goes P → (d : FromWire) (n : ℕ) (c : Course) (x : Option Client) → client_here c.table n ≡ x → P c → P (data_for d n c x)
+    data_for_kept goes d n c None here is = is
+    data_for_kept goes d n c (Some x) here is = opened_as_kept goes d n x c (packets.data_came d.bytes (record { 0 = c.table.moment }) x.session).answer here is
 
-    data_at_kept : (d : FromWire) (peer : ℕ) (c : Course) (n : Option ℕ) → P c → P (data_at d peer c n)
-    data_at_kept d peer c None is = reported_kept closed (notes.UnknownPeer peer) c is
-    data_at_kept d peer c (Some n) is = data_for_kept d n c (client_here c.table n) refl is
+    data_at_kept : Goes P → (d : FromWire) (peer : ℕ) (c : Course) (n : Option ℕ) → P c → P (data_at d peer c n)
+    data_at_kept goes d peer c None is = reported_kept closed (notes.UnknownPeer peer) c is
+    data_at_kept goes d peer c (Some n) is = data_for_kept goes d n c (client_here c.table n) refl is
 
-    pub data_course_kept : (d : FromWire) (f : DataForm) (c : Course) → P c → P (data_came d f c)
+    pub data_course_kept : Goes P → (d : FromWire) (f : DataForm) (c : Course) → P c → P (data_came d f c)
     unfolding data_came
-    data_course_kept d f c is = data_at_kept d f.peer c (by_peer_id c.table f.peer) is
+    data_course_kept goes d f c is = data_at_kept goes d f.peer c (by_peer_id c.table f.peer) is
 
     device_passed_kept : (inner : List ℕ) (c : Course) (v : Verdict) → P c → P (device_passed inner c v)
     device_passed_kept inner c NotIp is = reported_kept closed (notes.NotIp None) c is

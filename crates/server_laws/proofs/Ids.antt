@@ -75,7 +75,7 @@ KeptSince clients c = AllKept clients c.table.clients
 pub since_closed : (clients : List Client) → IsClosed (KeptSince clients)
 since_closed clients = record {
   quiet = λ actions c none is. is;
-  other = λ went counted into outof stopped c is. is;
+  other = λ counted into outof stopped c is. is;
   acts = λ n x o c here peer is.
       changed_ids n (λ y. record y { session = o.peer }) clients c.table.clients
       (at_place (λ y. AreKept y.session.sessions o.peer.sessions × KeysFrom o.peer.sessions y.session.sessions × WrapsStay y.session o.peer × (is_some y.established ≡ true → is_some y.established ≡ true)) c.table.clients n x (here_at c.table n x here).there (peer.kept.ids, peer.kept.stay, peer.wraps, λ e. e)) is;

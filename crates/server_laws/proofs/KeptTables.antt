@@ -166,7 +166,7 @@ ready_keys x ready is = go ready.keys
 pub good_closed : IsClosed Good
 good_closed = record {
   quiet = λ actions c quiet is. is;
-  other = λ went counted into outof stopped c is. is;
+  other = λ counted into outof stopped c is. is;
   acts = λ n x o c here peer is.
       altered_good n (λ y. record y { session = o.peer })
       (at_place (λ y. ClientKept y (record y { session = o.peer })) c.table.clients n x (here_at c.table n x here).there

@@ -20,3 +20,5 @@ pub mod Pings
 pub mod WrapsOnce
 pub mod CallsKeep
 pub mod WrapRuns
+pub mod LastTaken
+pub mod HavePlaces

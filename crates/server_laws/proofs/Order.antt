@@ -65,7 +65,7 @@ not_before t clients n x kept there none e =
 order_closed : (t : Table) → IsClosed (InOrder t)
 order_closed t = record {
   quiet = λ actions c none is. is;
-  other = λ went counted into outof stopped c is. is;
+  other = λ counted into outof stopped c is. is;
   acts = λ n x o c here peer is.
       later_clients t c.table.clients _ c.table.routes.rows ((since_closed t.clients).acts n x o c here peer is.kept) is;
   exchanges = λ n x ccd o c here known ex is.
@@ -108,4 +108,4 @@ pub step_follows : (lacks : Bool) (t : Table) (event : Event) → FollowRows t (
 step_follows lacks t event =
     follow_of t (step lacks t event).table
     (by_over (InOrder t) lacks t event (order_begun t)
-    (λ goes. came_kept (order_closed t) (order_deals t) lacks event.draw event.kind (course_begun t event) (order_begun t)))
+    (λ goes. came_kept (order_closed t) (order_deals t) (λ to c is. is) lacks event.draw event.kind (course_begun t event) (order_begun t)))

@@ -88,7 +88,7 @@ more_quiet effects more none is = record { settings_same = is.settings_same; que
 pub quiet_closed : (t : Table) → IsClosed (Quietly t)
 quiet_closed t = record {
   quiet = λ actions c none is. more_quiet c.effects actions none is;
-  other = λ went counted into outof stopped c is. is;
+  other = λ counted into outof stopped c is. is;
   acts = λ n x o c here peer is. more_quiet c.effects (actions_of o.peer.role o.doings) (actions_quiet o.peer.role o.doings) is;
   exchanges = λ n x ccd o c here known ex is. more_quiet c.effects (actions_of o.peer.role o.doings) (actions_quiet o.peer.role o.doings) is;
   alters = λ n f c keeps is. is;
@@ -117,7 +117,7 @@ more_pings effects more none is = record {
 pub ticking_closed : (t : Table) → IsClosed (Ticking t)
 ticking_closed t = record {
   quiet = λ actions c none is. (good_closed.quiet actions c none is.0, more_pings c.effects actions none is.1);
-  other = λ went counted into outof stopped c is. is;
+  other = λ counted into outof stopped c is. is;
   acts = λ n x o c here peer is.
       (good_closed.acts n x o c here peer is.0, more_pings c.effects (actions_of o.peer.role o.doings) (actions_quiet o.peer.role o.doings) is.1);
   exchanges = λ n x ccd o c here known ex is.

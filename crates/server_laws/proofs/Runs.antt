@@ -57,7 +57,7 @@ pub step_kept : (lacks : Bool) (t : Table) (event : Event) → IsWellKept t → 
 step_kept lacks t event is =
     whole_kept (step lacks t event).table
     (by_over Good lacks t event (parts_kept t is)
-    (λ goes. came_kept good_closed good_deals lacks event.draw event.kind (course_begun t event) (good_begun t event is)))
+    (λ goes. came_kept good_closed good_deals (λ to c is. is) lacks event.draw event.kind (course_begun t event) (good_begun t event is)))
 
 lacking_kept : (t : Table) (event : Event) (lack : Lack) → IsWellKept t → IsWellKept (after_lacking t event lack)
 lacking_kept t event LacksNothing is = step_kept false t event is
@@ -79,7 +79,7 @@ HasSettings settings c = c.table.settings ≡ settings
 settings_closed : (settings : Settings) → IsClosed (HasSettings settings)
 settings_closed settings = record {
   quiet = λ actions c none is. is;
-  other = λ went counted into outof stopped c is. is;
+  other = λ counted into outof stopped c is. is;
   acts = λ n x o c here peer is. is;
   exchanges = λ n x ccd o c here known ex is. is;
   alters = λ n f c keeps is. is;
@@ -99,7 +99,7 @@ settings_deals settings = record {
 step_settings : (lacks : Bool) (t : Table) (event : Event) (settings : Settings) → t.settings ≡ settings → (step lacks t event).table.settings ≡ settings
 step_settings lacks t event settings is =
     by_over (HasSettings settings) lacks t event is
-    (λ goes. came_kept (settings_closed settings) (settings_deals settings) lacks event.draw event.kind (course_begun t event) is)
+    (λ goes. came_kept (settings_closed settings) (settings_deals settings) (λ to c is. is) lacks event.draw event.kind (course_begun t event) is)
 
 lacking_settings : (t : Table) (event : Event) (lack : Lack) (settings : Settings) → t.settings ≡ settings → (after_lacking t event lack).settings ≡ settings
 lacking_settings t event LacksNothing settings is = step_settings false t event settings is
@@ -115,7 +115,7 @@ run_settings (entry ∷ entries) t settings is = run_settings entries (after t e
 step_since : (lacks : Bool) (t : Table) (event : Event) → AllKept t.clients (step lacks t event).table.clients
 step_since lacks t event =
     by_over (KeptSince t.clients) lacks t event (all_same t.clients)
-    (λ goes. came_kept (since_closed t.clients) (since_deals t.clients) lacks event.draw event.kind (course_begun t event) (all_same t.clients))
+    (λ goes. came_kept (since_closed t.clients) (since_deals t.clients) (λ to c is. is) lacks event.draw event.kind (course_begun t event) (all_same t.clients))
 
 pub lacking_since : (t : Table) (event : Event) (lack : Lack) → AllKept t.clients (after_lacking t event lack).clients
 lacking_since t event LacksNothing = step_since false t event

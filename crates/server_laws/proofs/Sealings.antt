@@ -179,7 +179,7 @@ pub sealed_closed : (t : Table) → IsClosed (HasSealed t)
 sealed_closed t = record {
   quiet = λ actions c none is.
       went t c (did_all actions c) is.good is.kept (all_same c.table.clients) (more_quiet c actions none) is;
-  other = λ w counted into outof stopped c is. record { good = is.good; kept = is.kept; rising = rising_then t c _ (all_same c.table.clients) refl is.rising };
+  other = λ counted into outof stopped c is. record { good = is.good; kept = is.kept; rising = rising_then t c _ (all_same c.table.clients) refl is.rising };
   acts = λ n x o c here peer is.
       went t c (acted n x.address o c) (good_closed.acts n x o c here peer is.good) ((since_closed t.clients).acts n x o c here peer is.kept)
       ((since_closed c.table.clients).acts n x o c here peer (all_same c.table.clients))
@@ -307,7 +307,8 @@ none_sealed t c none = record {
 pub step_rising : (lacks : Bool) (t : Table) (event : Event) → IsWellKept t → IsSealedRising t (step lacks t event)
 step_rising lacks t event kept =
     by_over (IsSealedRising t) lacks t event (none_sealed t (course_of t) refl)
-    (λ goes. (came_kept (sealed_closed t) (sealed_deals t) lacks event.draw event.kind (course_begun t event)
+    (λ goes. (came_kept (sealed_closed t) (sealed_deals t)
+    (λ to c is. record { good = is.good; kept = is.kept; rising = rising_then t c _ (all_same c.table.clients) refl is.rising }) lacks event.draw event.kind (course_begun t event)
     (record { good = good_begun t event kept; kept = all_same t.clients; rising = none_sealed t (course_begun t event) refl })).rising)
 
 pub run_since : (entries : List Entry) (t : Table) → AllKept t.clients (after_all t entries).clients

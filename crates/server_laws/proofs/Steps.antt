@@ -20,7 +20,7 @@ use Rattle.peer_table.specs.declared.outcomes.SessionFault.{SessionFault}
 use Rattle.peer_table.specs.declared.outcomes.SessionFault.TheVariants as faults
 use Rattle.peer_table.specs.Places.{first_place}
 use Rattle.packet_ids.specs.Freshness.{recorded}
-use Rattle.peer_table.specs.KeySessions.{Session, kid_of}
+use Rattle.peer_table.specs.KeySessions.{Session, kid_of, usable_with}
 use Rattle.peer_table.specs.Peer.{Outcome, Peer, other}
 use Rattle.peer_table.specs.DataPackets as packets
 use Rattle.server_table.specs.Table.{Client, Table}
@@ -139,7 +139,7 @@ accepted_about t event d n x inner is here o =
       sealed = λ i k. at_changed (sealed_by k) n f t.clients i
           (λ y there e. opened_seals x (record { 0 = moment_of t event }) d.bytes inner k o
           ∙ ap (λ (z : Client). sealed_in (slice_get z.session.sessions k)) (some_same (sym (here_at (course_begun t event).table n x here).there ∙ there)));
-      good = accepted_kept good_closed d n x (course_begun t event) here (good_begun t event is);
+      good = accepted_kept good_closed (λ to c is. is) d n x (course_begun t event) here (good_begun t event is);
     }
 
 refused_none : (t : Table) (event : Event) (d : FromWire) (n : ℕ) (x : Client) (fault : SessionFault) →
@@ -215,7 +215,7 @@ module _ (t : Table) (event : Event) (kept : IsWellKept t) (goes : is_over t ≡
   datagram_brings d draw (Err e) comes is = BringsNone refl refl
   datagram_brings d draw (Ok (Wrapped op kid sid)) comes is =
       quiet_brings (control_arrived d draw op (course_begun t event))
-      (arrived_kept (quiet_closed t) d draw op (course_begun t event) (record { settings_same = refl; queue_same = refl; none = refl }))
+      (arrived_kept (quiet_closed t) (λ to c is. is) d draw op (course_begun t event) (record { settings_same = refl; queue_same = refl; none = refl }))
   datagram_brings d draw (Ok (Inner f)) comes is = data_brings d f comes is
 
   -- what a datagram brings
@@ -250,6 +250,11 @@ opened_from t m bytes n k id inner sound kept a =
       opens = ap (λ (role : Role). packets.opened_under (other role) a.keys (kid_of k) bytes) role ∙ a.opens;
       fresh = a.is_fresh;
     }
+
+pub found_from : (t : Table) (m : ℕ) (bytes : List ℕ) (n k id : ℕ) (inner : List ℕ) → IsSound t → IsWellKept t → (a : IsAccepted t m bytes n k id inner) →
+    usable_with a.client.session.timers m a.client.session.sessions (packets.data_kid bytes) ≡ Some k
+unfolding opened_from
+found_from t m bytes n k id inner sound kept a = (opened_from t m bytes n k id inner sound kept a).found
 
 module _ (t : Table) (event : Event) (from : Addr) (bytes : List ℕ) (lacks : Bool) (sound : IsSound t) (kept : IsWellKept t) where
   abbrev wire : FromWire

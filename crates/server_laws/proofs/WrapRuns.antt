@@ -20,7 +20,7 @@ use Rattle.peer_table.specs.Places.{first_place}
 use Rattle.server_table.specs.Table.{Client, Table}
 use Rattle.server_table.specs.Lookups.{by_session, client_here, has_session, is_full}
 use Rattle.server_table.specs.Courses.{Course, acted}
-use Rattle.server_table.specs.ControlDatagrams.{ControlPacket, admitted, admitted_unless_full, client_begun, control_answered, control_arrived, control_at, control_for, control_read, control_unwrapped, incoming, of_nobody, opened_for, session_begun, to_client, with_admitted}
+use Rattle.server_table.specs.ControlDatagrams.{ControlPacket, admitted, admitted_unless_full, client_begun, control_answered, control_arrived, control_at, control_for, control_place, control_read, control_unwrapped, incoming, of_nobody, opened_for, session_begun, to_client, with_admitted}
 use Rattle.server_table.specs.DataDatagrams.{FromWire}
 use Rattle.server_table.specs.Runs.{Entry, after, after_all, after_lacking}
 use Rattle.server_table.specs.Sound.{AtMostOne, IsSound}
@@ -87,8 +87,8 @@ taken_has r n c x here fresh =
     let o = control_came x.session i in
     let d = acted n x.address o c in
     subst (λ (y : Option Client). HasWrapAt (control_for r n c y).table.clients n r.packet.time r.packet.id) (sym here)
-    (wrap_still d.table.clients (control_answered n x i d o.answer).table.clients n r.packet.time r.packet.id
-    (answered_kept (since_closed d.table.clients) n x i d o.answer (all_same d.table.clients)) (acted_has r n c x here fresh))
+    (wrap_still d.table.clients (control_answered n (control_place i x.session o.peer) d o.answer).table.clients n r.packet.time r.packet.id
+    (answered_kept (since_closed d.table.clients) (λ to c is. is) n (control_place i x.session o.peer) d o.answer (all_same d.table.clients)) (acted_has r n c x here fresh))
 
 -- ---- a client is admitted
 

@@ -4,3 +4,4 @@ pub mod Waiting
 pub mod WellKept
 pub mod Sealings
 pub mod Wraps
+pub mod LastTaken

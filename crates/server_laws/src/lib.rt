@@ -2,9 +2,11 @@
 //! code here.
 #![tactic(auto)]
 
+mod datagrams;
 mod inner_packets;
 mod wraps;
 
+pub use datagrams::{datagrams_go_to_key_sessions, what_is_taken_has_a_place};
 pub use inner_packets::{
     ids_are_accepted_once, ids_are_sealed_once, no_packet_is_lost, other_events_hand_nothing_on,
     packets_go_where_they_should, packets_of_the_device_go_to_owners, packets_wait_in_order,

@@ -105,7 +105,7 @@ module _ {a : Table} {k : ℕ} where
   admitted_kept from c peer new is =
       let x = client_begun c.table from peer in
       record {
-        moment_same = is.moment_same;
+        steady = is.steady;
         count = let more = length-append c.table.clients (x ∷ []) in let count = is.count in omega (arith, more, count);
         sound = λ s. let p = is.sound s in record {
           early = p.early;

@@ -86,7 +86,7 @@ at_place P clients n x there is y at = subst P (some_same (sym there ∙ at)) is
 
 module _ {a : Table} {k : ℕ} where
   -- with these rows later
-  pub keeps_with : {m : ℕ} {clients : List Client} {rows : List Row} {done : List Action} (later : List Row) (n : ℕ) (f : Client → Client) →
+  pub keeps_with : {m : ℕ × (Bool × ℕ)} {clients : List Client} {rows : List Row} {done : List Action} (later : List Row) (n : ℕ) (f : Client → Client) →
       ((y : Client) → slice_get clients n ≡ Some y → Keeps y (f y)) → (AreRowsOf (changed_at n f clients) rows → AreRowsOf (changed_at n f clients) later) →
       KeptParts a k m clients rows done → KeptParts a k m (changed_at n f clients) later done
   keeps_with {clients = clients} {rows = rows} later n f keeps more is =
@@ -97,7 +97,7 @@ module _ {a : Table} {k : ℕ} where
       (λ y there here est. ((keeps y there).here ∙ here, (keeps y there).established est)) row.1.0 at) s.owned))
       is
 
-  pub keeps_kept : {m : ℕ} {clients : List Client} {rows : List Row} {done : List Action} (n : ℕ) (f : Client → Client) →
+  pub keeps_kept : {m : ℕ × (Bool × ℕ)} {clients : List Client} {rows : List Row} {done : List Action} (n : ℕ) (f : Client → Client) →
       ((y : Client) → slice_get clients n ≡ Some y → Keeps y (f y)) →
       KeptParts a k m clients rows done → KeptParts a k m (changed_at n f clients) rows done
   keeps_kept {rows = rows} n f keeps is = keeps_with rows n f keeps (λ all. all) is

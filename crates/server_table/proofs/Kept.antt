@@ -63,17 +63,21 @@ parts_sound t s = record { early = s.moment; orderly = s.orderly; peer_ids = s.p
 pub whole_sound : (t : Table) → IsSoundOf t.moment t.clients t.routes.rows → IsSound t
 whole_sound t s = record { moment = s.early; orderly = s.orderly; peer_ids = s.peer_ids; sessions = s.sessions; rows = s.owned }
 
--- What was kept since a table: its moment; so many clients there are; and if it was sound, all is sound, and each client is there still.
--- What was done does not begin with a refusal.
-pub record KeptParts (a : Table) (k : ℕ) (moment : ℕ) (clients : List Client) (rows : List Row) (done : List Action) : Type 0 where
-  pub moment_same : moment ≡ a.moment
+-- what no event but the end changes once it is taken: the moment, whether the server was stopped, and how many events it took
+abbrev pub steady_of : Table → ℕ × (Bool × ℕ)
+steady_of t = (t.moment, (t.is_stopped, t.events))
+
+-- What was kept since a table: its moment, that it was not stopped, and its count of events; so many clients there are; and if it was sound,
+-- all is sound, and each client is there still. What was done does not begin with a refusal.
+pub record KeptParts (a : Table) (k : ℕ) (steady_part : ℕ × (Bool × ℕ)) (clients : List Client) (rows : List Row) (done : List Action) : Type 0 where
+  pub steady : steady_part ≡ steady_of a
   pub count : length clients ≡ k
-  pub sound : IsSound a → IsSoundOf moment clients rows
+  pub sound : IsSound a → IsSoundOf steady_part.0 clients rows
   pub still : IsSound a → AreStill a.clients clients
   pub late : begins_late done ≡ true
 
 abbrev pub Kept : Table → ℕ → Course → Type 0
-Kept a k c = KeptParts a k c.table.moment c.table.clients c.table.routes.rows c.effects
+Kept a k c = KeptParts a k (steady_of c.table) c.table.clients c.table.routes.rows c.effects
 
 -- ---- changes of one client
 
@@ -139,13 +143,13 @@ changed_still n f before clients changes orderly still i x there =
 
 module _ {a : Table} {k : ℕ} where
   -- a change of one client, by what it does to addresses and rows
-  pub altered : {m : ℕ} {clients : List Client} {rows : List Row} {done : List Action} (later : List Row) (n : ℕ) (f : Client → Client) →
+  pub altered : {m : ℕ × (Bool × ℕ)} {clients : List Client} {rows : List Row} {done : List Action} (later : List Row) (n : ℕ) (f : Client → Client) →
       ((y : Client) → slice_get clients n ≡ Some y → Changes y (f y)) →
-      (IsSound a → IsSoundOf m clients rows → (from : Addr) (sid : Sid) → AtMostOne (has_session from sid) (changed_at n f clients)) →
-      (IsSoundOf m clients rows → AreRowsOf (changed_at n f clients) later) →
+      (IsSound a → IsSoundOf m.0 clients rows → (from : Addr) (sid : Sid) → AtMostOne (has_session from sid) (changed_at n f clients)) →
+      (IsSoundOf m.0 clients rows → AreRowsOf (changed_at n f clients) later) →
       KeptParts a k m clients rows done → KeptParts a k m (changed_at n f clients) later done
   altered {clients = clients} later n f changes sessions owned is = record {
-    moment_same = is.moment_same;
+    steady = is.steady;
     count = changed_count n f clients ∙ is.count;
     sound = λ s. let p = is.sound s in record {
       early = p.early;
@@ -160,10 +164,10 @@ module _ {a : Table} {k : ℕ} where
   }
 
   -- something more was done
-  pub done_kept : {m : ℕ} {clients : List Client} {rows : List Row} {done : List Action} (more : List Action) → begins_late more ≡ true →
+  pub done_kept : {m : ℕ × (Bool × ℕ)} {clients : List Client} {rows : List Row} {done : List Action} (more : List Action) → begins_late more ≡ true →
       KeptParts a k m clients rows done → KeptParts a k m clients rows (done ++ more)
   done_kept {done = done} more late is = record {
-    moment_same = is.moment_same;
+    steady = is.steady;
     count = is.count;
     sound = is.sound;
     still = is.still;

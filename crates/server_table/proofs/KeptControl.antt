@@ -6,6 +6,7 @@ use Rattle.std.proofs.lemmas.Bool.{false≢true}
 use Rattle.vpn_base.specs.declared.address.Addr.{Addr}
 use Rattle.vpn_base.specs.declared.names.Freshness.{Freshness}
 use Rattle.vpn_base.specs.declared.names.Freshness.TheVariants.{Fresh, Zero, Old, Seen, Late}
+use Rattle.vpn_base.specs.declared.names.Place.{Place}
 use Rattle.vpn_base.specs.declared.names.Sid.{Sid}
 use Rattle.vpn_links.specs.Actions.{Report}
 use Rattle.vpn_links.specs.declared.notes.Note.TheVariants as notes
@@ -24,7 +25,7 @@ use Rattle.server_table.specs.Lookups.{cid, client_here, has_session}
 use Rattle.server_table.specs.Courses.{Course, acted, client_changed, did, opened_by}
 use Rattle.server_table.specs.DataDatagrams.{went_to}
 use Rattle.server_table.specs.Endings.{turned}
-use Rattle.server_table.specs.ControlDatagrams.{ControlPacket, control_answered, control_for, control_session, incoming, to_client, with_fresh}
+use Rattle.server_table.specs.ControlDatagrams.{ControlPacket, control_answered, control_for, control_place, incoming, to_client, with_fresh}
 use Rattle.server_table.specs.Sound.{AtMostOne}
 use Rattle.server_table.proofs.Places.{some_same}
 use Rattle.server_table.proofs.Sessions.{changed_back, has_session_of, joined, session_is, shadowed}
@@ -174,11 +175,11 @@ module _ {a : Table} {k : ℕ} where
       Kept a k (acted n x.address o c) →
       Settled a k (did (Report (notes.Replayed time id)) (acted n x.address o c))
   replay_settled n x o c time id there before (inl same) is = record {
-    kept = record { moment_same = is.moment_same; count = is.count; sound = is.sound; still = is.still; late = refl };
+    kept = record { steady = is.steady; count = is.count; sound = is.sound; still = is.still; late = refl };
     refused = λ refused. acted_same n x o c there before ∙ same;
   }
   replay_settled n x o c time id there before (inr past) is = record {
-    kept = record { moment_same = is.moment_same; count = is.count; sound = is.sound; still = is.still; late = refl };
+    kept = record { steady = is.steady; count = is.count; sound = is.sound; still = is.still; late = refl };
     refused = λ refused. absurd (false≢true (sym (not_refused (did (Report (notes.Replayed time id)) (acted n x.address o c)).effects (acted n x.address o c).staged
         (past_late (did (Report (notes.Replayed time id)) (acted n x.address o c)).effects
         (past_append (acted n x.address o c).effects (Report (notes.Replayed time id) ∷ []) (past_append c.effects (actions_of o.peer.role o.doings) past)))) ∙ refused));
@@ -190,18 +191,18 @@ module _ (calls : CallsKeepOrder) {a : Table} {k : ℕ} where
       keeps_kept n (with_fresh now)
       (λ y there. record { peer_id = refl; here = refl; address = refl; established = λ e. e; session = orderly_from y.session }) is
 
-  answered_settled : (n : ℕ) (x : Client) (i : Incoming) (c : Course) (o : Outcome (Result Turn Refused)) (answer : Result Turn Refused) →
+  answered_settled : (n : ℕ) (x : Client) (to : Option Place) (c : Course) (o : Outcome (Result Turn Refused)) (answer : Result Turn Refused) →
       slice_get c.table.clients n ≡ Some x → ((time id : ℕ) → answer ≡ Err (Replayed time id) → IsAsBefore x.session o) → MayRefuse a c →
-      Kept a k (acted n x.address o c) → Settled a k (control_answered n x i (acted n x.address o c) answer)
-  answered_settled n x i c o (Ok turn) there replayed may is =
+      Kept a k (acted n x.address o c) → Settled a k (control_answered n to (acted n x.address o c) answer)
+  answered_settled n x to c o (Ok turn) there replayed may is =
       let d = acted n x.address o c in
-      let e : Course = client_changed n (with_fresh d.table.moment) (record d { table = went_to n (Some (control_session i x.session)) d.table }) in
+      let e : Course = client_changed n (with_fresh d.table.moment) (record d { table = went_to to d.table }) in
       kept_settled (turned n turn e) (turned_kept calls n turn e (fresh_kept n d.table.moment d is))
-  answered_settled n x i c o (Err (BadKey kid)) there replayed may is =
+  answered_settled n x to c o (Err (BadKey kid)) there replayed may is =
       let d = acted n x.address o c in
-      kept_settled (control_answered n x i d (Err (BadKey kid)))
+      kept_settled (control_answered n to d (Err (BadKey kid)))
       (did_kept (Report (notes.BadKey (cid n) kid)) (client_changed n (with_fresh d.table.moment) d) refl (fresh_kept n d.table.moment d is))
-  answered_settled n x i c o (Err (Replayed time id)) there replayed may is = replay_settled n x o c time id there (replayed time id refl) may is
+  answered_settled n x to c o (Err (Replayed time id)) there replayed may is = replay_settled n x o c time id there (replayed time id refl) may is
 
   control_for_settled : (r : ControlPacket) (n : ℕ) (c : Course) (x : Option Client) → client_here c.table n ≡ x →
       ((x : Client) → client_here c.table n ≡ Some x → x.session.remote ≡ None → Alone c.table.clients n x.address (sid_of r.packet)) → MayRefuse a c →
@@ -210,7 +211,7 @@ module _ (calls : CallsKeepOrder) {a : Table} {k : ℕ} where
   control_for_settled r n c (Some x) here alone may is =
       let i = incoming r c x in
       let o = control_came x.session i in
-      answered_settled n x i c o o.answer (here_at c.table n x here).there (λ time id e. replayed_before x.session i time id e) may
+      answered_settled n x (control_place i x.session o.peer) c o o.answer (here_at c.table n x here).there (λ time id e. replayed_before x.session i time id e) may
       (fixed_kept n x i o c here (λ orderly. calls.control x.session.remote x.session i (orderly_from x.session orderly)) (alone x here) is)
 
   pub to_client_settled : (r : ControlPacket) (n : ℕ) (c : Course) →

@@ -16,3 +16,7 @@ pub mod KeptControl
 pub mod Admission
 pub mod Steps
 pub mod GivenUp
+pub mod Early
+pub mod EarlyEngine
+pub mod EarlyControl
+pub mod EarlyTime

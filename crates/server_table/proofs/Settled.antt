@@ -7,11 +7,11 @@ use Rattle.vpn_links.specs.declared.notes.Note.{Note}
 use Rattle.server_table.specs.Table.{Table}
 use Rattle.server_table.specs.Courses.{Course, Staged, outs, reported}
 use Rattle.server_table.specs.Refusals.{is_refused, is_refusing_note}
-use Rattle.server_table.proofs.Kept.{Kept, KeptParts, begins_late, is_refusing}
+use Rattle.server_table.proofs.Kept.{Kept, KeptParts, begins_late, is_refusing, steady_of}
 
 -- all is kept, and where it was refused nothing has changed
 pub record Settled (a : Table) (k : ℕ) (c : Course) : Type 0 where
-  pub kept : KeptParts a k c.table.moment c.table.clients c.table.routes.rows []
+  pub kept : KeptParts a k (steady_of c.table) c.table.clients c.table.routes.rows []
   pub refused : is_refused (outs c) ≡ true → c.table ≡ a
 
 -- the same where a client may have been admitted
@@ -53,12 +53,12 @@ MayRefuse a c = (c.table ≡ a) ⊎ (is_past c.effects ≡ true)
 module _ {a : Table} {k : ℕ} where
   pub kept_settled : (c : Course) → Kept a k c → Settled a k c
   kept_settled c is = record {
-    kept = record { moment_same = is.moment_same; count = is.count; sound = is.sound; still = is.still; late = refl };
+    kept = record { steady = is.steady; count = is.count; sound = is.sound; still = is.still; late = refl };
     refused = λ refused. absurd (false≢true (sym (not_refused c.effects c.staged is.late) ∙ refused));
   }
 
   pub refusal_settled : (note : Note) (c : Course) → c.table ≡ a → Kept a k c → Settled a k (reported note c)
   refusal_settled note c same is = record {
-    kept = record { moment_same = is.moment_same; count = is.count; sound = is.sound; still = is.still; late = refl };
+    kept = record { steady = is.steady; count = is.count; sound = is.sound; still = is.still; late = refl };
     refused = λ refused. same;
   }

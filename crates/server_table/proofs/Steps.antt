@@ -1,10 +1,10 @@
 -- What a step keeps, and what a run keeps.
 use Rattle.std.proofs.Common.{◌≡◌, ◌≤◌, ℕ, suc, ◌+◌, ◌^◌, nat_lt, Bool, true, false, List, [], ◌∷◌, length, None, refl, sym, ap, ◌∙◌, subst, inl, inr, arith, Result, Ok, Err}
-use Rattle.std.specs.Prelude.{◌⊎◌, codes}
+use Rattle.std.specs.Prelude.{◌⊎◌, ◌||◌, codes, nat_le}
 use Rattle.std.proofs.lemmas.Bool.{false≢true}
 use Rattle.vpn_base.specs.declared.names.Draw.{Draw}
 use Rattle.vpn_base.specs.declared.names.Malformed.{Malformed}
-use Rattle.vpn_links.specs.Actions.{Report, Say, Stop}
+use Rattle.vpn_links.specs.Actions.{Report, Say}
 use Rattle.vpn_links.specs.declared.events.Event.{Event}
 use Rattle.vpn_links.specs.declared.events.Kind.{Kind}
 use Rattle.vpn_links.specs.declared.events.Kind.TheVariants.{Datagram, EngineText, EnginePlain, EngineUp, EngineDown, DeviceIn, DeviceReady, File, Line, Tick, Halt}
@@ -25,7 +25,7 @@ use Rattle.vpn_links.specs.Steps.{Lack, LacksAll, LacksHost, LacksNothing}
 use Rattle.server_table.specs.Sound.{IsSound}
 use Rattle.server_table.specs.Step.{came, course_begun, datagram_as, device_came, device_passed, halted, is_over, line_came, line_said, moment_of, step, step_if}
 use Rattle.server_table.specs.internal.CallsKeepOrder.{CallsKeepOrder}
-use Rattle.server_table.proofs.Kept.{Kept, done_kept, parts_sound, whole_sound}
+use Rattle.server_table.proofs.Kept.{Kept, parts_sound, whole_sound}
 use Rattle.server_table.proofs.Keeps.{did_kept}
 use Rattle.server_table.proofs.KeptData.{data_settled}
 use Rattle.server_table.proofs.KeptEngine.{down_settled, engine_settled, file_settled}
@@ -34,7 +34,7 @@ use Rattle.server_table.proofs.KeptTime.{tick_kept}
 use Rattle.server_table.proofs.Admission.{control_finished}
 use Rattle.server_table.proofs.Settled.{Finished, Settled, kept_settled, refusal_settled}
 use Rattle.server_table.proofs.Places.{none_some}
-use Rattle.server_table.proofs.Stopped.{stopped_step}
+use Rattle.server_table.proofs.Stopped.{halted_step, stopped_step}
 
 module _ (calls : CallsKeepOrder) {a : Table} {k : ℕ} where
   datagram_finished : (d : FromWire) (draw : Draw) (c : Course) (p : Result PacketForm Malformed) → c.table ≡ a → Kept a k c → Finished a k (datagram_as d draw c p)
@@ -63,22 +63,20 @@ module _ (calls : CallsKeepOrder) {a : Table} {k : ℕ} where
   line_kept [] c is = is
   line_kept (b ∷ bytes) c is = said_kept c (nat_lt 256 (length (b ∷ bytes))) is
 
-  halted_kept : (c : Course) → Kept a k c → Kept a k (halted c)
-  halted_kept c is = done_kept (Stop ∷ []) refl is
-
-  came_finished : (lacks : Bool) (draw : Draw) (kind : Kind) (c : Course) → c.table ≡ a → Kept a k c → Finished a k (came lacks draw kind c)
+  -- any kind of event but the end
+  came_finished : (lacks : Bool) (draw : Draw) (kind : Kind) (c : Course) → (kind ≡ Halt → ⊥) → c.table ≡ a → Kept a k c → Finished a k (came lacks draw kind c)
   unfolding came
-  came_finished lacks draw (Datagram from bytes) c same is = datagram_finished (record { from = from; bytes = bytes; lacks = lacks }) draw c (packet_of bytes) same is
-  came_finished lacks draw (EngineText conn bytes) c same is = inl (engine_settled calls draw conn (EngineText conn bytes) c same is)
-  came_finished lacks draw (EnginePlain conn bytes) c same is = inl (engine_settled calls draw conn (EnginePlain conn bytes) c same is)
-  came_finished lacks draw (EngineUp conn name) c same is = inl (engine_settled calls draw conn (EngineUp conn name) c same is)
-  came_finished lacks draw (EngineDown conn) c same is = inl (down_settled calls conn c same is)
-  came_finished lacks draw (DeviceIn bytes) c same is = inl (kept_settled (came lacks draw (DeviceIn bytes) c) (device_kept bytes c is))
-  came_finished lacks draw DeviceReady c same is = inl (kept_settled (came lacks draw DeviceReady c) (device_ready_kept c is))
-  came_finished lacks draw (File id answer) c same is = inl (file_settled calls draw id answer c same is)
-  came_finished lacks draw (Line bytes) c same is = inl (kept_settled (came lacks draw (Line bytes) c) (line_kept bytes c is))
-  came_finished lacks draw Tick c same is = inl (kept_settled (came lacks draw Tick c) (tick_kept calls c is))
-  came_finished lacks draw Halt c same is = inl (kept_settled (came lacks draw Halt c) (halted_kept c is))
+  came_finished lacks draw (Datagram from bytes) c other same is = datagram_finished (record { from = from; bytes = bytes; lacks = lacks }) draw c (packet_of bytes) same is
+  came_finished lacks draw (EngineText conn bytes) c other same is = inl (engine_settled calls draw conn (EngineText conn bytes) c same is)
+  came_finished lacks draw (EnginePlain conn bytes) c other same is = inl (engine_settled calls draw conn (EnginePlain conn bytes) c same is)
+  came_finished lacks draw (EngineUp conn name) c other same is = inl (engine_settled calls draw conn (EngineUp conn name) c same is)
+  came_finished lacks draw (EngineDown conn) c other same is = inl (down_settled calls conn c same is)
+  came_finished lacks draw (DeviceIn bytes) c other same is = inl (kept_settled (came lacks draw (DeviceIn bytes) c) (device_kept bytes c is))
+  came_finished lacks draw DeviceReady c other same is = inl (kept_settled (came lacks draw DeviceReady c) (device_ready_kept c is))
+  came_finished lacks draw (File id answer) c other same is = inl (file_settled calls draw id answer c same is)
+  came_finished lacks draw (Line bytes) c other same is = inl (kept_settled (came lacks draw (Line bytes) c) (line_kept bytes c is))
+  came_finished lacks draw Tick c other same is = inl (kept_settled (came lacks draw Tick c) (tick_kept calls c is))
+  came_finished lacks draw Halt c other same is = absurd (other refl)
 
 still_same : (clients : List Client) → AreStill clients clients
 still_same clients n x there = record { client = x; there = there; peer_id = refl; remote = λ sid is. is; here = λ is. is }
@@ -103,7 +101,7 @@ begun t event = (course_begun t event).table
 
 begun_kept : (t : Table) (event : Event) → Kept (begun t event) (length t.clients) (course_begun t event)
 begun_kept t event = record {
-  moment_same = refl;
+  steady = refl;
   count = refl;
   sound = parts_sound (begun t event);
   still = λ s. still_same t.clients;
@@ -126,6 +124,8 @@ begun_table_sound settings key = record {
 -- a step of a server that takes events: its table
 pub record IsTaken (t : Table) (event : Event) (later : Table) : Type 0 where
   pub moment : later.moment ≡ moment_of t event
+  pub stopped : (event.kind ≡ Halt → ⊥) → later.is_stopped ≡ t.is_stopped
+  pub events : later.events ≡ t.events + 1
   pub at_least : length t.clients ≤ length later.clients
   pub at_most : length later.clients ≤ length t.clients + 1
   pub sound : IsSound t → IsSound later
@@ -136,7 +136,9 @@ settled_taken t event c k from to is =
     let kept = is.kept in
     let count = kept.count in
     record {
-      moment = kept.moment_same;
+      moment = ap (λ (p : ℕ × (Bool × ℕ)). p.0) kept.steady;
+      stopped = λ other. ap (λ (p : ℕ × (Bool × ℕ)). p.1.0) kept.steady;
+      events = ap (λ (p : ℕ × (Bool × ℕ)). p.1.1) kept.steady;
       at_least = omega (arith, count, from);
       at_most = omega (arith, count, to);
       sound = λ s. whole_sound c.table (kept.sound (begun_sound t event s));
@@ -150,6 +152,35 @@ finished_taken t event c (inr s) = settled_taken t event c (suc (length t.client
 finished_refused : (t : Table) (event : Event) (c : Course) → Finished (begun t event) (length t.clients) c → is_refused (outs c) ≡ true → c.table ≡ begun t event
 finished_refused t event c (inl s) refused = s.refused refused
 finished_refused t event c (inr s) refused = s.refused refused
+
+-- the end is taken
+halt_taken : (t : Table) (event : Event) → event.kind ≡ Halt → IsTaken t event (halted (course_begun t event)).table
+halt_taken t event is = record {
+  moment = refl;
+  stopped = λ other. absurd (other is);
+  events = refl;
+  at_least = omega arith;
+  at_most = omega arith;
+  sound = λ s. let b = begun_sound t event s in record { moment = b.moment; orderly = b.orderly; peer_ids = b.peer_ids; sessions = b.sessions; rows = b.rows };
+  still = λ s. still_same t.clients;
+}
+
+abbrev is_halt : Kind → Bool
+is_halt Halt = true
+is_halt kind = false
+
+halt_or_not : (kind : Kind) → (kind ≡ Halt) ⊎ (kind ≡ Halt → ⊥)
+halt_or_not (Datagram from bytes) = inr (λ e. false≢true (ap is_halt e))
+halt_or_not (EngineText conn bytes) = inr (λ e. false≢true (ap is_halt e))
+halt_or_not (EnginePlain conn bytes) = inr (λ e. false≢true (ap is_halt e))
+halt_or_not (EngineUp conn name) = inr (λ e. false≢true (ap is_halt e))
+halt_or_not (EngineDown conn) = inr (λ e. false≢true (ap is_halt e))
+halt_or_not (DeviceIn bytes) = inr (λ e. false≢true (ap is_halt e))
+halt_or_not DeviceReady = inr (λ e. false≢true (ap is_halt e))
+halt_or_not (File id answer) = inr (λ e. false≢true (ap is_halt e))
+halt_or_not (Line bytes) = inr (λ e. false≢true (ap is_halt e))
+halt_or_not Tick = inr (λ e. false≢true (ap is_halt e))
+halt_or_not Halt = inl refl
 
 -- ---- by what the step came to
 
@@ -172,26 +203,34 @@ grows_by t event later (inl same) = let e = ap (λ (t : Table). length t.clients
 grows_by t event later (inr is) = (is.at_least, is.at_most)
 
 module _ (calls : CallsKeepOrder) where
-  taken_finished : (lacks : Bool) (t : Table) (event : Event) → is_over t ≡ false → Finished (begun t event) (length t.clients) (step lacks t event)
+  taken_finished : (lacks : Bool) (t : Table) (event : Event) → is_over t ≡ false → (event.kind ≡ Halt → ⊥) → Finished (begun t event) (length t.clients) (step lacks t event)
   unfolding step
-  taken_finished lacks t event goes =
+  taken_finished lacks t event goes other =
       subst (λ (b : Bool). Finished (begun t event) (length t.clients) (step_if lacks t event b)) (sym goes)
-      (came_finished calls lacks event.draw event.kind (course_begun t event) refl (begun_kept t event))
+      (came_finished calls lacks event.draw event.kind (course_begun t event) other refl (begun_kept t event))
 
   -- either the server takes no event, or it takes this one
   step_cases : (lacks : Bool) (t : Table) (event : Event) → ((step lacks t event).table ≡ t) ⊎ IsTaken t event (step lacks t event).table
   step_cases lacks t event = go (is_over t) refl
     where
+      by_kind : is_over t ≡ false → (event.kind ≡ Halt) ⊎ (event.kind ≡ Halt → ⊥) → IsTaken t event (step lacks t event).table
+      by_kind goes (inl is) = subst (λ (c : Course). IsTaken t event c.table) (sym (halted_step lacks t event goes is)) (halt_taken t event is)
+      by_kind goes (inr other) = finished_taken t event (step lacks t event) (taken_finished lacks t event goes other)
+
       go : (b : Bool) → is_over t ≡ b → ((step lacks t event).table ≡ t) ⊎ IsTaken t event (step lacks t event).table
       go true over = inl (ap (λ (c : Course). c.table) (stopped_step lacks t event over))
-      go false goes = inr (finished_taken t event (step lacks t event) (taken_finished lacks t event goes))
+      go false goes = inr (by_kind goes (halt_or_not event.kind))
 
   pub refused_unchanged : (lacks : Bool) (t : Table) (event : Event) → is_refused (outs (step lacks t event)) ≡ true → (step lacks t event).table ≡ (course_begun t event).table
   refused_unchanged lacks t event refused = go (is_over t) refl
     where
+      by_kind : is_over t ≡ false → (event.kind ≡ Halt) ⊎ (event.kind ≡ Halt → ⊥) → (step lacks t event).table ≡ (course_begun t event).table
+      by_kind goes (inl is) = absurd (false≢true (sym (ap (λ (c : Course). is_refused (outs c)) (halted_step lacks t event goes is)) ∙ refused))
+      by_kind goes (inr other) = finished_refused t event (step lacks t event) (taken_finished lacks t event goes other) refused
+
       go : (b : Bool) → is_over t ≡ b → (step lacks t event).table ≡ (course_begun t event).table
       go true over = absurd (false≢true (sym (ap (λ (c : Course). is_refused (outs c)) (stopped_step lacks t event over)) ∙ refused))
-      go false goes = finished_refused t event (step lacks t event) (taken_finished lacks t event goes) refused
+      go false goes = by_kind goes (halt_or_not event.kind)
 
   pub step_sound : (lacks : Bool) (t : Table) (event : Event) → IsSound t → IsSound (step lacks t event).table
   step_sound lacks t event s = sound_by t event (step lacks t event).table (step_cases lacks t event) s
@@ -205,6 +244,28 @@ module _ (calls : CallsKeepOrder) where
   pub step_grows : (lacks : Bool) (t : Table) (event : Event) →
       (length t.clients ≤ length (step lacks t event).table.clients) × (length (step lacks t event).table.clients ≤ length t.clients + 1)
   step_grows lacks t event = grows_by t event (step lacks t event).table (step_cases lacks t event)
+
+  -- only the end stops a server that takes events
+  pub step_stops : (lacks : Bool) (t : Table) (event : Event) → is_over t ≡ false → (step lacks t event).table.is_stopped ≡ true → event.kind ≡ Halt
+  step_stops lacks t event goes is = by_kind (halt_or_not event.kind)
+    where
+      not_stopped : (a b : Bool) → (a || b) ≡ false → a ≡ false
+      not_stopped false b is = refl
+      not_stopped true b is = is
+
+      by_kind : (event.kind ≡ Halt) ⊎ (event.kind ≡ Halt → ⊥) → event.kind ≡ Halt
+      by_kind (inl is) = is
+      by_kind (inr other) =
+          let taken = finished_taken t event (step lacks t event) (taken_finished lacks t event goes other) in
+          absurd (false≢true (sym (not_stopped t.is_stopped (nat_le (2 ^ 48) t.events) goes) ∙ (sym (taken.stopped other) ∙ is)))
+
+  -- an event is counted at most once
+  counted_by : (t : Table) (event : Event) (later : Table) → (later ≡ t) ⊎ IsTaken t event later → later.events ≤ t.events + 1
+  counted_by t event later (inl same) = let e = ap (λ (t : Table). t.events) same in omega (arith, e)
+  counted_by t event later (inr is) = let e = is.events in omega (arith, e)
+
+  pub step_counts : (lacks : Bool) (t : Table) (event : Event) → (step lacks t event).table.events ≤ t.events + 1
+  step_counts lacks t event = counted_by t event (step lacks t event).table (step_cases lacks t event)
 
   -- ---- runs
 

@@ -9,7 +9,7 @@ use Rattle.vpn_links.specs.declared.events.Kind.{Kind}
 use Rattle.vpn_links.specs.declared.events.Kind.TheVariants.{Halt}
 use Rattle.server_table.specs.Table.{Table}
 use Rattle.server_table.specs.Courses.{Course, outs}
-use Rattle.server_table.specs.Step.{came, course_begun, course_of, is_over, step, step_if}
+use Rattle.server_table.specs.Step.{came, course_begun, course_of, halted, is_over, step, step_if}
 use Rattle.server_table.specs.Runs.{Entry, MayLack, MayRun, after, after_all, after_lacking, is_free, is_free_kind, is_not_learned, is_refusal, needs_host, outs_lacking, run}
 use Rattle.vpn_links.specs.Steps.{Lack, LacksAll, LacksHost, LacksNothing}
 
@@ -24,6 +24,13 @@ unfolding step came
 halt_stops lacks t event goes is =
     ap (λ (b : Bool). (step_if lacks t event b).table.is_stopped) goes
     ∙ ap (λ (kind : Kind). (came lacks event.draw kind (course_begun t event)).table.is_stopped) is
+
+-- and does nothing else
+pub halted_step : (lacks : Bool) (t : Table) (event : Event) → is_over t ≡ false → event.kind ≡ Halt → step lacks t event ≡ halted (course_begun t event)
+unfolding step came
+halted_step lacks t event goes is =
+    ap (λ (b : Bool). step_if lacks t event b) goes
+    ∙ ap (λ (kind : Kind). came lacks event.draw kind (course_begun t event)) is
 
 pub stopped_after : (t : Table) (event : Event) (lack : Lack) → is_over t ≡ true → after_lacking t event lack ≡ t
 stopped_after t event LacksNothing is = ap (λ (c : Course). c.table) (stopped_step false t event is)

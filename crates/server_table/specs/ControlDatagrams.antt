@@ -3,6 +3,7 @@ use Rattle.std.specs.Prelude.{ℕ, is_some, ◌==◌, ◌&&◌, ◌%◌, Bool, t
 use Rattle.vpn_base.specs.declared.address.Addr.{Addr}
 use Rattle.vpn_base.specs.declared.names.Draw.{Draw}
 use Rattle.vpn_base.specs.declared.names.Malformed.{Malformed}
+use Rattle.vpn_base.specs.declared.names.Place.{Place}
 use Rattle.vpn_base.specs.declared.names.Role.TheVariants.{Server}
 use Rattle.vpn_base.specs.declared.names.Sid.{Sid}
 use Rattle.vpn_links.specs.declared.notes.Note.TheVariants as notes
@@ -17,7 +18,7 @@ use Rattle.peer_table.specs.declared.outcomes.Refused.TheVariants.{Replayed, Bad
 use Rattle.peer_table.specs.declared.outcomes.Turn.{Turn}
 use Rattle.peer_table.specs.ControlPackets.{Incoming, control_came, is_first, kid_in, sid_of}
 use Rattle.peer_table.specs.KeySessions.{live_with}
-use Rattle.peer_table.specs.Naming.{number_of}
+use Rattle.peer_table.specs.Naming.{number_of, place_numbered}
 use Rattle.peer_table.specs.Peer.{Outcome, Peer, began}
 use Rattle.server_table.specs.Table.{Client, Table, Unasked}
 use Rattle.server_table.specs.Lookups.{by_session, cid, client_here, free_peer_id, is_full}
@@ -46,21 +47,21 @@ incoming r c x = record {
 abbrev pub with_fresh : ℕ → Client → Client
 with_fresh now x = record x { heard = now }
 
--- the number of the session to which a control packet goes that is taken, by what is live
-abbrev pub control_session : Incoming → Peer → ℕ
-control_session i p = number_of p (live_with p.timers i.moment.0 p.sessions (kid_in i))
+-- the key session to which a control packet went that was taken: of those that the client had, the live one with its key id, or else the
+-- one that it began; as that key session stands then, where the client's session id is fixed
+abbrev pub control_place : Incoming → Peer → Peer → Option Place
+control_place i p after = place_numbered (number_of p (live_with p.timers i.moment.0 p.sessions (kid_in i))) after
 
 -- A packet whose wrap is fresh is something fresh of its client, also where no session takes it. One that was taken went to its
 -- session, and may end the client.
-abbrev pub control_answered : ℕ → Client → Incoming → Course → Result Turn Refused → Course
-control_answered n x i c (Ok turn) =
-    turned n turn (client_changed n (with_fresh c.table.moment) (record c { table = went_to n (Some (control_session i x.session)) c.table }))
-control_answered n x i c (Err (BadKey kid)) = reported (notes.BadKey (cid n) kid) (client_changed n (with_fresh c.table.moment) c)
-control_answered n x i c (Err (Replayed time id)) = reported (notes.Replayed time id) c
+abbrev pub control_answered : ℕ → Option Place → Course → Result Turn Refused → Course
+control_answered n to c (Ok turn) = turned n turn (client_changed n (with_fresh c.table.moment) (record c { table = went_to to c.table }))
+control_answered n to c (Err (BadKey kid)) = reported (notes.BadKey (cid n) kid) (client_changed n (with_fresh c.table.moment) c)
+control_answered n to c (Err (Replayed time id)) = reported (notes.Replayed time id) c
 
 -- the session has answered
 abbrev pub control_acted : ℕ → Client → Incoming → Course → Outcome (Result Turn Refused) → Course
-control_acted n x i c o = control_answered n x i (acted n x.address o c) o.answer
+control_acted n x i c o = control_answered n (control_place i x.session o.peer) (acted n x.address o c) o.answer
 
 -- the client of a number takes it
 abbrev pub control_for : ControlPacket → ℕ → Course → Option Client → Course

@@ -1,7 +1,8 @@
 -- A data packet comes from the wire.
-use Rattle.std.specs.Prelude.{ℕ, ◌==◌, ◌&&◌, not, Bool, true, false, List, [], ◌∷◌, length, Option, Some, None, option_map, Result, Ok, Err}
+use Rattle.std.specs.Prelude.{ℕ, ◌==◌, ◌&&◌, not, Bool, true, false, List, [], ◌∷◌, length, Option, Some, None, Result, Ok, Err}
 use Rattle.std.specs.Str.{bytes_eq}
 use Rattle.vpn_base.specs.declared.address.Addr.{Addr}
+use Rattle.vpn_base.specs.declared.names.Place.{Place}
 use Rattle.vpn_base.specs.declared.names.Sid.{Sid}
 use Rattle.vpn_links.specs.declared.notes.Note.TheVariants as notes
 use Rattle.opcode_codec.specs.DataPacket.{DataForm}
@@ -12,6 +13,7 @@ use Rattle.inner_verdict.specs.Verdict.{verdict}
 use Rattle.peer_table.specs.declared.outcomes.SessionFault.{SessionFault}
 use Rattle.peer_table.specs.declared.outcomes.SessionFault.TheVariants as faults
 use Rattle.peer_table.specs.KeySessions.{usable_with}
+use Rattle.peer_table.specs.Naming.{place_numbered}
 use Rattle.peer_table.specs.Peer.{Outcome, Peer}
 use Rattle.peer_table.specs.DataPackets as packets
 use Rattle.server_table.specs.Table.{Client, Table}
@@ -79,18 +81,23 @@ moved n from x c = moved_if n from c (not (is_address x.address from) && not (is
 abbrev pub with_opened : ℕ → Peer → ℕ → Client → Client
 with_opened now peer bytes x = record x { session = peer; heard = now; bytes_in = counted x.bytes_in bytes }
 
--- the datagram went to this session of this client
-abbrev pub went_to : ℕ → Option ℕ → Table → Table
-went_to n number t = record t { last_taken = option_map (λ k. (n, k)) number }
+-- the datagram went to this key session
+abbrev pub went_to : Option Place → Table → Table
+went_to to t = record t { last_taken = to }
 
--- the session to which a data packet goes
-abbrev pub data_session : Table → Client → List ℕ → Option ℕ
-data_session t x bytes = usable_with x.session.timers t.moment x.session.sessions (packets.data_kid bytes)
+-- the key session of this number, if there is a number
+abbrev pub place_found : Option ℕ → Peer → Option Place
+place_found None p = None
+place_found (Some k) p = place_numbered k p
+
+-- the key session to which a data packet goes that opens at this moment: the usable one with its key id
+abbrev pub data_place : ℕ → List ℕ → Peer → Option Place
+data_place now bytes p = place_found (usable_with p.timers now p.sessions (packets.data_kid bytes)) p
 
 -- it opened, and its id was fresh
 abbrev pub accepted : FromWire → ℕ → Client → Course → Peer → Course
 accepted d n x c peer = record c {
-  table = record (went_to n (data_session c.table x d.bytes) (with_client n (with_opened c.table.moment peer (length d.bytes)) c.table))
+  table = record (went_to (data_place c.table.moment d.bytes x.session) (with_client n (with_opened c.table.moment peer (length d.bytes)) c.table))
       { bytes_in = counted c.table.bytes_in (length d.bytes) };
 }
 
@@ -99,7 +106,7 @@ abbrev pub refused : FromWire → ℕ → Client → Course → SessionFault →
 refused d n x c (faults.BadKey kid) = reported (notes.BadKey (cid n) kid) c
 refused d n x c faults.NotSealed = reported (notes.NotSealed (cid n)) c
 refused d n x c (faults.Stale kind id greatest) =
-    reported (notes.Stale (cid n) kind id greatest) (record c { table = went_to n (data_session c.table x d.bytes) c.table })
+    reported (notes.Stale (cid n) kind id greatest) (record c { table = went_to (data_place c.table.moment d.bytes x.session) c.table })
 
 -- whether the session took it: then the client may have moved, and the inner packet goes on
 abbrev pub opened_as : FromWire → ℕ → Client → Course → Peer → Result (List ℕ) SessionFault → Course

@@ -1,53 +1,49 @@
--- Which key session a datagram went to, and which one sent a datagram.
-use Rattle.std.specs.Prelude.{ℕ, ◌/◌, ◌%◌, ◌==◌, ◌&&◌, is_some, Bool, List, take, drop, Option, Some, None, slice_get, slice_index, if◌then◌else◌}
+-- Which key session sent a datagram.
+use Rattle.std.specs.Prelude.{ℕ, ◌==◌, Bool, List, [], ◌∷◌, Option, None, Some, Result, Ok, Err, if◌then◌else◌}
+use Rattle.std.specs.Option.{option_or}
 use Rattle.std.specs.Str.{bytes_eq}
 use Rattle.vpn_base.specs.declared.address.Addr.{Addr}
+use Rattle.vpn_base.specs.declared.names.Malformed.{Malformed}
 use Rattle.vpn_base.specs.declared.names.Place.{Place}
-use Rattle.sealed_packet.specs.SealedPacket.{peer_in}
-use Rattle.peer_table.specs.Places.{first_place}
-use Rattle.peer_table.specs.Naming.{place, place_numbered}
+use Rattle.opcode_codec.specs.Packet.{PacketForm, Inner, Wrapped, packet_of}
+use Rattle.peer_table.specs.Naming.{place}
 use Rattle.server_table.specs.Table.{Client, Table}
 use Rattle.server_table.specs.Lookups.{is_address}
 
--- ---- where the last datagram went
+-- the key id in a packet
+abbrev pub kid_in : PacketForm → ℕ
+kid_in (Wrapped op kid sid) = kid
+kid_in (Inner f) = f.kid
 
--- a key session of a client by its number
-abbrev pub place_at : ℕ → Option Client → Option Place
-place_at k None = None
-place_at k (Some x) = place_numbered k x.session
+-- whether a packet names a key session of the client with this peer id: a data packet by the peer id, a control packet by the server's
+-- session id
+abbrev pub names : PacketForm → ℕ → Place → Bool
+names (Wrapped op kid sid) peer_id at = bytes_eq at.own.0 sid.0
+names (Inner f) peer_id at = peer_id == f.peer
 
--- of a client and a session by their numbers
-abbrev pub place_by : Table → Option (ℕ × ℕ) → Option Place
-place_by t None = None
-place_by t (Some went) = place_at went.1 (slice_get t.clients went.0)
+-- a key session of the client with this peer id, where the packet names it
+abbrev pub if_named : PacketForm → ℕ → Option Place → Option Place
+if_named packet peer_id None = None
+if_named packet peer_id (Some at) = if names packet peer_id at then Some at else None
 
--- the key session to which the datagram of the last step went: a control packet that no test refused, or a data packet that opened
-unfoldable pub last_taken_place : Table → Option Place
-last_taken_place t = place_by t t.last_taken
+-- the same where the client has the address to which the packet was sent
+abbrev pub sent_here : Addr → PacketForm → Addr → ℕ → Option Place → Option Place
+sent_here to packet address peer_id at = if is_address address to then if_named packet peer_id at else None
 
--- ---- who sent a datagram
+-- the key session of a client that is here by which the packet may have been sent: the open one with its key id
+abbrev pub sent_from : Addr → PacketForm → Client → Option Place
+sent_from to packet x = if x.is_here then sent_here to packet x.address x.peer_id (place (kid_in packet) x.session) else None
 
--- whether a datagram names a client: a data packet by its peer id, a control packet by the server's session id
-abbrev pub names : List ℕ → Client → Bool
-names datagram x =
-    if slice_index datagram 0 / 8 == 9 then x.peer_id == peer_in datagram
-    else bytes_eq (take 8 (drop 1 datagram)) x.session.envelope.own.0
+-- of these clients the first that has one
+abbrev pub first_sent : Addr → PacketForm → List Client → Option Place
+first_sent to packet [] = None
+first_sent to packet (x ∷ clients) = option_or (sent_from to packet x) (first_sent to packet clients)
 
--- whether a client is here, at this address, is named by the datagram, and has an open session with its key id
-abbrev pub may_have_sent : Addr → List ℕ → Client → Bool
-may_have_sent to datagram x =
-    x.is_here && is_address x.address to && names datagram x && is_some (place (slice_index datagram 0 % 8) x.session)
-
--- the session of the datagram's key id
-abbrev pub sent_from : List ℕ → Option Client → Option Place
-sent_from datagram None = None
-sent_from datagram (Some x) = place (slice_index datagram 0 % 8) x.session
-
--- the client of a number
-abbrev pub sent_at : Table → List ℕ → Option ℕ → Option Place
-sent_at t datagram None = None
-sent_at t datagram (Some n) = sent_from datagram (slice_get t.clients n)
+-- a datagram that is no packet was sent by none
+abbrev pub sent_packet : Addr → List Client → Result PacketForm Malformed → Option Place
+sent_packet to clients (Err e) = None
+sent_packet to clients (Ok packet) = first_sent to packet clients
 
 -- the key session that sent a datagram to this address, by what the datagram tells; of several the one of the least client number
 unfoldable pub sent_by : Table → Addr → List ℕ → Option Place
-sent_by t to datagram = sent_at t datagram (first_place (may_have_sent to datagram) t.clients)
+sent_by t to datagram = sent_packet to t.clients (packet_of datagram)

@@ -2,6 +2,7 @@
 use Rattle.std.specs.Prelude.{ℕ, Bool, false, List, [], Option, None}
 use Rattle.vpn_base.specs.declared.address.Addr.{Addr}
 use Rattle.vpn_base.specs.declared.address.Ip4.{Ip4}
+use Rattle.vpn_base.specs.declared.names.Place.{Place}
 use Rattle.ccd_files.specs.declared.client_file.Ccd.{Ccd}
 use Rattle.ovpn_config.specs.declared.settings.Settings.{Settings}
 use Rattle.peer_table.specs.Peer.{Peer}
@@ -38,7 +39,7 @@ pub record Client : Type 0 where
 -- number, the rows of its route table with the hosts that it learned, the packets that wait for the device, the oldest first, its
 -- moment in milliseconds, how many engine connections were opened, how many bytes all data packets had that opened fresh and that
 -- were sealed, the interval of the byte counts in seconds (0 is never) and the moment from which it runs, whether it was stopped,
--- how many events it took, and the client and key session to which the datagram of the last event went, if there was one.
+-- how many events it took, and the key session to which the datagram of the last event went, if there was one.
 pub record Table : Type 0 where
   pub settings : Settings
   pub key : List ℕ
@@ -53,7 +54,7 @@ pub record Table : Type 0 where
   pub counted_at : ℕ
   pub is_stopped : Bool
   pub events : ℕ
-  pub last_taken : Option (ℕ × ℕ)
+  pub last_taken : Option Place
 
 -- a server to which nothing has come
 abbrev pub table_begun : Settings → List ℕ → Table
