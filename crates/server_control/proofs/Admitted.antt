@@ -5,6 +5,7 @@ use Rattle.std.proofs.lemmas.List.{append_assoc, map-append}
 use Rattle.vpn_base.specs.declared.address.Addr.{Addr}
 use Rattle.vpn_base.specs.declared.names.Cid.{Cid}
 use Rattle.vpn_base.specs.declared.names.Draw.{Draw}
+use Rattle.vpn_base.specs.declared.names.Place.{Place}
 use Rattle.vpn_base.specs.declared.names.Role.TheVariants.{Server}
 use Rattle.vpn_base.specs.declared.names.Sid.{Sid}
 use Rattle.vpn_links.specs.Actions.{Action, Contents, Datagram, Holds}
@@ -92,7 +93,7 @@ not_last (y ∷ xs) x (suc j) v there apart = not_last xs x j v there (λ e. apa
 
 module _ {S : Type 0} (goes_on : S → Type 0) (count since : S → ℕ) (core : ServerCore S) (counted : 1 ≤ core.events) (h : IsSoundAhead goes_on count since core)
     (e : Entry (ClientState S)) (few : count e.value.session ≤ 2) (past : since e.value.session ≤ core.moment.0) (ct : ClientTable (ClientState S))
-    (has : Has ct (entries_of core.clients ++ e ∷ []) (most_of core.clients) (admitted_by core.clients + 1)) (turn : Cid) (last : Option (Cid × ℕ)) where
+    (has : Has ct (entries_of core.clients ++ e ∷ []) (most_of core.clients) (admitted_by core.clients + 1)) (turn : Cid) (last : Option Place) where
   abbrev after : ServerCore S
   after = record core { clients = ct; connections = core.connections + 1; last_taken = last; turn = turn }
 
@@ -171,7 +172,7 @@ more_staged n to datagrams staged =
 
 module _ {S : Type 0} (means : S → Peer → Type 0) (before : List Action) (core : ServerCore S) (old new : Contents) (c : Course) (h : CourseStands means before core old c)
     (alone : old.staged ≡ []) (mark : core.mark ≡ 0) (from : Addr) (draw : Draw) (own : Sid) (own_is : own ≡ server.own_sid draw) (opened : Opened) (view : ControlView)
-    (used : (opened.id == 0) ≡ false) (first : (opened.first % 8 == 0) ≡ true) (v : ClientState S) (number : ℕ) (answer : Result Turn Refused) (ct : ClientTable (ClientState S))
+    (used : (opened.id == 0) ≡ false) (first : (opened.first % 8 == 0) ≡ true) (v : ClientState S) (reached : Option Place) (answer : Result Turn Refused) (ct : ClientTable (ClientState S))
     (has : Has ct (entries_of core.clients ++ newcomer (admitted_by core.clients) (ids.free_peer_id (entries_of core.clients)) from opened.sid v ∷ []) (most_of core.clients)
     (admitted_by core.clients + 1)) (free : ids.free_peer_id (entries_of core.clients) ≡ free_peer_id c.table) (turn : Cid) (turn_is : turn.0 ≡ admitted_by core.clients) where
   abbrev pub n : ℕ
@@ -229,7 +230,7 @@ module _ {S : Type 0} (means : S → Peer → Type 0) (before : List Action) (co
   connections_are : core.connections + 1 ≡ c.table.connections + opened_by o1.doings + opened_by o2.doings
   connections_are = let k = h.table.connections in let a = opened_one in let b = quiet in omega (arith, k, a, b)
 
-  module _ (begins : HasBegun means v number answer old new from core.moment o1 i) where
+  module _ (begins : HasBegun means v reached answer old new from core.moment o1 i) where
     client_stands : IsOfClient means (newcomer (admitted_by core.clients) (ids.free_peer_id (entries_of core.clients)) from opened.sid v) n (server.client_begun c.table from o2.peer)
     client_stands = record {
       number = h.table.admitted;
@@ -248,7 +249,7 @@ module _ {S : Type 0} (means : S → Peer → Type 0) (before : List Action) (co
       };
     }
 
-    core_more : (last : Option (Cid × ℕ)) (k : Option (ℕ × ℕ)) (clients : List Client) → option_map (λ went. (went.0.0, went.1)) last ≡ k
+    core_more : (last k : Option Place) (clients : List Client) → last ≡ k
         → clients ≡ c.table.clients ++ server.client_begun c.table from o2.peer ∷ []
         → CoreStands means (record core { clients = ct; connections = core.connections + 1; last_taken = last; turn = turn })
         (record c.table { clients = clients; connections = c.table.connections + opened_by o1.doings + opened_by o2.doings; last_taken = k })
@@ -313,9 +314,9 @@ module _ {S : Type 0} (means : S → Peer → Type 0) (before : List Action) (co
         ∙ changed_last (λ (y : Client). record y { heard = c.table.moment }) c.table.clients (server.client_begun c.table from o2.peer)
 
     course_went : (a : Result Turn Refused) → CourseStands means before
-        (record core { clients = ct; connections = core.connections + 1; last_taken = last_after a (turn, number) core.last_taken; turn = turn }) new (went n number (acted n from o2 c1) a)
+        (record core { clients = ct; connections = core.connections + 1; last_taken = last_after a reached core.last_taken; turn = turn }) new (went n reached (acted n from o2 c1) a)
     course_went (Ok t) = record {
-      table = core_more (Some (turn, number)) (Some (n, number)) _ (ap (λ (k : ℕ). Some (k, number)) (turn_is ∙ h.table.admitted)) heard_then;
+      table = core_more reached reached _ refl heard_then;
       outbox = outbox;
       in_turn = in_turn;
     }
@@ -323,20 +324,20 @@ module _ {S : Type 0} (means : S → Peer → Type 0) (before : List Action) (co
     course_went (Err (Replayed time id)) = record { table = core_more core.last_taken c.table.last_taken _ h.table.last_taken acted_twice; outbox = outbox; in_turn = in_turn }
 
   -- the client is admitted, and has taken the packet
-  pub has_admitted : (last : Option (Cid × ℕ)) → last ≡ last_after answer (turn, number) core.last_taken
-      → HasBegun means v number answer old new from core.moment given given_packet
+  pub has_admitted : (last : Option Place) → last ≡ last_after answer reached core.last_taken
+      → HasBegun means v reached answer old new from core.moment given given_packet
       → HasTaken means before (record core { clients = ct; connections = core.connections + 1; last_taken = last; turn = turn }) new n r c1 x1 answer
   has_admitted last last_is begins_so =
-      let begins : HasBegun means v number answer old new from core.moment o1 i =
-      subst (λ (j : Incoming). HasBegun means v number answer old new from core.moment o1 j) packet_same
-      (subst (λ (o : Outcome Turn). HasBegun means v number answer old new from core.moment o given_packet) began_same begins_so) in
-      subst (λ (last : Option (Cid × ℕ)). HasTaken means before (record core { clients = ct; connections = core.connections + 1; last_taken = last; turn = turn }) new n r c1 x1 answer)
+      let begins : HasBegun means v reached answer old new from core.moment o1 i =
+      subst (λ (j : Incoming). HasBegun means v reached answer old new from core.moment o1 j) packet_same
+      (subst (λ (o : Outcome Turn). HasBegun means v reached answer old new from core.moment o given_packet) began_same begins_so) in
+      subst (λ (last : Option Place). HasTaken means before (record core { clients = ct; connections = core.connections + 1; last_taken = last; turn = turn }) new n r c1 x1 answer)
       (sym last_is)
       (record {
         answered = begins.answer_is;
-        course = subst (λ (k : ℕ). CourseStands means before
-            (record core { clients = ct; connections = core.connections + 1; last_taken = last_after answer (turn, number) core.last_taken; turn = turn }) new (went n k (acted n from o2 c1) answer))
-            begins.number_is (course_went begins answer);
+        course = subst (λ (k : Option Place). CourseStands means before
+            (record core { clients = ct; connections = core.connections + 1; last_taken = last_after answer reached core.last_taken; turn = turn }) new (went n k (acted n from o2 c1) answer))
+            begins.reached_is (course_went begins answer);
       })
 
 -- the client that was admitted is here

@@ -6,4 +6,3 @@ mod First
 mod Placed
 mod Admitted
 mod Arrived
-mod Early

@@ -3,7 +3,7 @@ use Rattle.std.proofs.Common.{◌≡◌, ℕ, zero, suc, ◌+◌, ◌-◌, ◌*�
 use Rattle.std.specs.Prelude.{is_some, unwrap_or}
 use Rattle.std.specs.List.{AllByRecursion}
 use Rattle.std.proofs.lemmas.Bool.{false≢true}
-use Rattle.vpn_base.specs.declared.names.Cid.{Cid}
+use Rattle.vpn_base.specs.declared.names.Place.{Place}
 use Rattle.client_table.specs.declared.table.ClientTable.{ClientTable}
 use Rattle.client_table.specs.Changes as table
 use Rattle.client_table.specs.Entries.{Entry}
@@ -65,7 +65,7 @@ pub record Goes {S : Type 0} (goes_on : S → Type 0) (count since : S → ℕ) 
 one_opened : (connections events k : ℕ) → k ≤ 1 → 1 ≤ events → connections ≤ 2 ^ 13 * (events - 1) → connections + k ≤ 2 ^ 13 * events
 one_opened connections events k one counted few = omega (arith, one, counted, few)
 
-into_last : {S : Type 0} {goes_on : S → Type 0} {count since : S → ℕ} {core : ServerCore S} → IsSound goes_on count since core → (last : Option (Cid × ℕ))
+into_last : {S : Type 0} {goes_on : S → Type 0} {count since : S → ℕ} {core : ServerCore S} → IsSound goes_on count since core → (last : Option Place)
     → IsSound goes_on count since (record core { last_taken = last })
 into_last s last = record { sessions = s.sessions; most = s.most; admitted = s.admitted; connections = s.connections; timers = s.timers; no_counts = s.no_counts; late = s.late }
 
@@ -145,7 +145,7 @@ module _ {S : Type 0} (goes_on : S → Type 0) (count since : S → ℕ) (core :
         }
 
     -- a session has answered
-    pub sound_after : (answer : Result Turn Refused) (k : ℕ) (last : Option (Cid × ℕ)) → GoesOnAfter (goes_on w.session) answer → count w.session ≤ count v.session + 1 → since w.session ≤ core.moment.0 → k ≤ 1
+    pub sound_after : (answer : Result Turn Refused) (k : ℕ) (last : Option Place) → GoesOnAfter (goes_on w.session) answer → count w.session ≤ count v.session + 1 → since w.session ≤ core.moment.0 → k ≤ 1
         → table.place_of core.turn.0 (entries_of core.clients) ≡ Some i
         → IsSoundAfter goes_on count since (record core { clients = ct; connections = core.connections + k; last_taken = last }) answer
     sound_after (Ok Going) k last goes more later one place = into_last (sound_on more later k one goes) last

@@ -2,8 +2,8 @@
 use Rattle.std.proofs.Common.{◌≡◌, ℕ, zero, suc, ◌+◌, ◌≤◌, ◌%◌, Bool, List, [], ◌∷◌, ◌++◌, drop, length, min, slice_get, option_map, Option, Some, None, Result, Ok, Err, refl, sym, ap, subst, ◌∙◌, arith}
 use Rattle.std.specs.Prelude.{is_some, unwrap_or}
 use Rattle.vpn_base.specs.declared.address.Addr.{Addr}
-use Rattle.vpn_base.specs.declared.names.Cid.{Cid}
 use Rattle.vpn_base.specs.declared.names.Moment.{Moment}
+use Rattle.vpn_base.specs.declared.names.Place.{Place}
 use Rattle.vpn_base.specs.declared.names.Role.{Role}
 use Rattle.vpn_links.specs.Actions.{Action, Contents, Holds}
 use Rattle.client_table.specs.declared.table.ClientTable.{ClientTable}
@@ -14,7 +14,7 @@ use Rattle.peer_table.specs.declared.outcomes.Refused.TheVariants.{Replayed, Bad
 use Rattle.peer_table.specs.declared.outcomes.Turn.{Turn}
 use Rattle.peer_table.specs.ControlPackets.{Incoming, control_came}
 use Rattle.peer_table.specs.KeySessions.{live_with}
-use Rattle.peer_table.specs.Naming.{number_of}
+use Rattle.peer_table.specs.Naming as naming
 use Rattle.peer_table.specs.Outboxes.{Leaves, actions_of}
 use Rattle.peer_table.specs.Outboxes as boxes
 use Rattle.peer_table.specs.Peer.{Closes, Doing, Opens, Outcome, Peer, Puts, Writes}
@@ -79,8 +79,7 @@ counted_is old new role doings k is counted few =
 
 -- ---- the core
 
-pub finished : {S : Type 0} (means : S → Peer → Type 0) (core : ServerCore S) (t : Table) (a b : ℕ) (l : Option (Cid × ℕ)) (k : Option (ℕ × ℕ)) → a ≡ b
-    → option_map (λ went. (went.0.0, went.1)) l ≡ k → CoreStands means core t
+pub finished : {S : Type 0} (means : S → Peer → Type 0) (core : ServerCore S) (t : Table) (a b : ℕ) (l k : Option Place) → a ≡ b → l ≡ k → CoreStands means core t
     → CoreStands means (record core { connections = a; last_taken = l }) (record t { connections = b; last_taken = k })
 finished means core t a b l k is went h = record {
   settings = h.settings;
@@ -178,16 +177,16 @@ module _ {S : Type 0} (means : S → Peer → Type 0) (before : List Action) (co
   with_heard heard is = is ∙ ap (λ (at : Moment). record v { session = w.session; heard = at }) (sym (ap (λ (v : ClientState S). v.heard) is))
 
   module _ (o : Outcome (Result Turn Refused)) (remote : o.peer.remote ≡ Some there.entry.key.sid) (name : o.peer.name ≡ x.session.name) (session : means w.session o.peer)
-      (a : ℕ) (connections : a ≡ c.table.connections + opened_by o.doings) (number : ℕ) where
+      (a : ℕ) (connections : a ≡ c.table.connections + opened_by o.doings) (reached : Option Place) where
     core_went : (answer : Result Turn Refused) → w ≡ heard_after (Ok answer) core.moment v w.session
-        → CoreStands means (record core { clients = ct; connections = a; last_taken = last_after answer (core.turn, number) core.last_taken })
-        (went n number (acted n x.address o c) answer).table
+        → CoreStands means (record core { clients = ct; connections = a; last_taken = last_after answer reached core.last_taken })
+        (went n reached (acted n x.address o c) answer).table
     core_went (Ok turn) w_is =
-        subst (λ (clients : List Client). CoreStands means (record core { clients = ct; connections = a; last_taken = Some (core.turn, number) })
-        (record c.table { clients = clients; connections = c.table.connections + opened_by o.doings; last_taken = Some (n, number) }))
+        subst (λ (clients : List Client). CoreStands means (record core { clients = ct; connections = a; last_taken = reached })
+        (record c.table { clients = clients; connections = c.table.connections + opened_by o.doings; last_taken = reached }))
         (sym (changed_twice (λ (y : Client). record y { session = o.peer }) (λ y. record y { heard = c.table.moment }) n c.table.clients))
         (finished means (record core { clients = ct }) (with_client n (λ y. record y { session = o.peer; heard = c.table.moment }) c.table) a
-        (c.table.connections + opened_by o.doings) (Some (core.turn, number)) (Some (n, number)) connections refl
+        (c.table.connections + opened_by o.doings) reached reached connections refl
         (core_changed o.peer (λ y. c.table.moment) remote name session (ap (λ (v : ClientState S). v.heard.0) w_is ∙ h.table.moment) (with_heard core.moment w_is)))
     core_went (Err (BadKey kid)) w_is =
         subst (λ (clients : List Client). CoreStands means (record core { clients = ct; connections = a })
@@ -207,7 +206,8 @@ module _ {S : Type 0} (means : S → Peer → Type 0) (before : List Action) (co
       → (x : Client) → client_here c.table core.turn.0 ≡ Some x
       → CourseStands means before (record core { clients = ct1; connections = core.connections + opens_in (actions_of o.peer.role o.doings) }) new (acted core.turn.0 x.address o c))
       (opened : Opened) (view : ControlView) (to : Addr) (address : option_map (λ e. e.key.address) (slice_get (entries_of core.clients) i) ≡ Some to)
-      (number : ℕ) (number_is : (p : Peer) → means v.session p → number ≡ number_of p (live_with p.timers core.moment.0 p.sessions (opened.first % 8)))
+      (reached : Option Place) (number : ℕ) (reached_is : (q : Peer) → means w.session q → reached ≡ naming.place_numbered number q)
+      (number_is : (p : Peer) → means v.session p → number ≡ naming.number_of p (live_with p.timers core.moment.0 p.sessions (opened.first % 8)))
       (answer : Result Turn Refused) (w_is : w ≡ heard_after (Ok answer) core.moment v w.session) where
     abbrev pub given : Incoming
     given = boxes.incoming opened view (record { 0 = core.connections }) (is_some v.established) core.moment
@@ -229,35 +229,37 @@ module _ {S : Type 0} (means : S → Peer → Type 0) (before : List Action) (co
     abbrev pub o : Outcome (Result Turn Refused)
     o = control_came x.session wanted
 
-    session_is : number ≡ server.control_session wanted x.session
-    session_is = number_is x.session state_was.session ∙ ap (λ (now : ℕ). number_of x.session (live_with x.session.timers now x.session.sessions (opened.first % 8))) h.table.moment
-
     named : o.peer.name ≡ x.session.name
     named = (keeps x.session wanted).name
 
     fixed : o.peer.remote ≡ Some there.entry.key.sid
     fixed = (keeps x.session wanted).remote there.entry.key.sid there.stands.remote
 
+    number_same : number ≡ naming.number_of x.session (live_with x.session.timers c.table.moment x.session.sessions (opened.first % 8))
+    number_same =
+        number_is x.session state_was.session
+        ∙ ap (λ (k : ℕ). naming.number_of x.session (live_with x.session.timers k x.session.sessions (opened.first % 8))) h.table.moment
+
     put_in : (b : ℕ) → b ≡ opened_by o.doings → Leaves means w.session old new to o
         → (acted_so : CourseStands means before (record core { clients = ct1; connections = core.connections + opens_in (actions_of o.peer.role o.doings) }) new (acted n x.address o c))
         → (a : Result Turn Refused) → w ≡ heard_after (Ok a) core.moment v w.session
-        → CourseStands means before (record core { clients = ct; connections = core.connections + b; last_taken = last_after a (core.turn, number) core.last_taken }) new
-        (went n number (acted n x.address o c) a)
+        → CourseStands means before (record core { clients = ct; connections = core.connections + b; last_taken = last_after a reached core.last_taken }) new
+        (went n reached (acted n x.address o c) a)
     put_in b b_is leaves so (Ok turn) is_w = record {
       table = core_went o fixed named leaves.peer (core.connections + b)
-          (ap (λ k. core.connections + k) b_is ∙ ap (λ k. k + opened_by o.doings) h.table.connections) number (Ok turn) is_w;
+          (ap (λ k. core.connections + k) b_is ∙ ap (λ k. k + opened_by o.doings) h.table.connections) reached (Ok turn) is_w;
       outbox = so.outbox;
       in_turn = so.in_turn;
     }
     put_in b b_is leaves so (Err (BadKey kid)) is_w = record {
       table = core_went o fixed named leaves.peer (core.connections + b)
-          (ap (λ k. core.connections + k) b_is ∙ ap (λ k. k + opened_by o.doings) h.table.connections) number (Err (BadKey kid)) is_w;
+          (ap (λ k. core.connections + k) b_is ∙ ap (λ k. k + opened_by o.doings) h.table.connections) reached (Err (BadKey kid)) is_w;
       outbox = so.outbox;
       in_turn = so.in_turn;
     }
     put_in b b_is leaves so (Err (Replayed time id)) is_w = record {
       table = core_went o fixed named leaves.peer (core.connections + b)
-          (ap (λ k. core.connections + k) b_is ∙ ap (λ k. k + opened_by o.doings) h.table.connections) number (Err (Replayed time id)) is_w;
+          (ap (λ k. core.connections + k) b_is ∙ ap (λ k. k + opened_by o.doings) h.table.connections) reached (Err (Replayed time id)) is_w;
       outbox = so.outbox;
       in_turn = so.in_turn;
     }
@@ -278,7 +280,7 @@ module _ {S : Type 0} (means : S → Peer → Type 0) (before : List Action) (co
     }
 
     -- the client has taken it
-    pub has_taken : (k : ℕ) (last : Option (Cid × ℕ)) → last ≡ last_after answer (core.turn, number) core.last_taken → (length old.effects ≤ length new.effects → k ≡ min (opens_in (drop (length old.effects) new.effects)) 1)
+    pub has_taken : (k : ℕ) (last : Option Place) → last ≡ last_after answer reached core.last_taken → (length old.effects ≤ length new.effects → k ≡ min (opens_in (drop (length old.effects) new.effects)) 1)
         → ((p : Peer) → means v.session p → Leaves means w.session old new to (control_came p given))
         → ((p : Peer) → means v.session p → answer ≡ (control_came p given).answer)
         → (y : Client) → client_here c.table n ≡ Some y
@@ -289,35 +291,37 @@ module _ {S : Type 0} (means : S → Peer → Type 0) (before : List Action) (co
         let here : Leaves means w.session old new x.address o = subst (λ (t : Addr). Leaves means w.session old new t o) address_is came in
         let so = acts o (λ z z_at. subst (HasCalled means core i old new o v (record v { session = w.session }) ct1) (client_is z z_at) (called here)) x there.client_there in
         let k_is = counted_is old.effects new.effects o.peer.role o.doings k here.outbox.0 counted (keeps x.session wanted).opens in
-        subst (λ (last : Option (Cid × ℕ)). HasTaken means before (record core { clients = ct; connections = core.connections + k; last_taken = last }) new n
+        subst (λ (last : Option Place). HasTaken means before (record core { clients = ct; connections = core.connections + k; last_taken = last }) new n
         (packet_of opened view) c y answer) (sym last_is)
-        (subst (λ (y : Client). HasTaken means before (record core { clients = ct; connections = core.connections + k; last_taken = last_after answer (core.turn, number) core.last_taken }) new n
+        (subst (λ (y : Client). HasTaken means before (record core { clients = ct; connections = core.connections + k; last_taken = last_after answer reached core.last_taken }) new n
         (packet_of opened view) c y answer) (client_is y at)
         (record {
           answered = told x.session state_was.session ∙ ap (λ (j : Incoming). (control_came x.session j).answer) same;
-          course = subst (λ (number1 : ℕ). CourseStands means before
-              (record core { clients = ct; connections = core.connections + k; last_taken = last_after answer (core.turn, number) core.last_taken }) new
-              (went n number1 (acted n x.address o c) answer)) session_is (put_in k k_is came so answer w_is);
+          course = subst (λ (reached1 : Option Place). CourseStands means before
+              (record core { clients = ct; connections = core.connections + k; last_taken = last_after answer reached core.last_taken }) new
+              (went n reached1 (acted n x.address o c) answer)) (reached_is o.peer came.peer ∙ ap (λ k. naming.place_numbered k o.peer) number_same) (put_in k k_is came so answer w_is);
         }))
 
 -- the two steps are one
-pub told_went : (n : ℕ) (x : Client) (i : Incoming) (c : Course) (answer : Result Turn Refused)
-    → told n (went n (server.control_session i x.session) c answer) answer ≡ server.control_answered n x i c answer
-told_went n x i c (Ok turn) = refl
-told_went n x i c (Err (BadKey kid)) = refl
-told_went n x i c (Err (Replayed time id)) = refl
+pub told_went : (n : ℕ) (reached : Option Place) (c : Course) (answer : Result Turn Refused)
+    → told n (went n reached c answer) answer ≡ server.control_answered n reached c answer
+told_went n reached c (Ok turn) = refl
+told_went n reached c (Err (BadKey kid)) = refl
+told_went n reached c (Err (Replayed time id)) = refl
 
 pub taken_in_all : {S : Type 0} (means : S → Peer → Type 0) (before : List Action) (core : ServerCore S) (out : Contents) (n : ℕ) (r : server.ControlPacket) (c : Course)
     (x : Client) (answer : Result Turn Refused) → client_here c.table n ≡ Some x → answer ≡ (control_came x.session (server.incoming r c x)).answer
     → CourseStands means before core out
-    (told n (went n (server.control_session (server.incoming r c x) x.session) (acted n x.address (control_came x.session (server.incoming r c x)) c) answer) answer)
+    (told n (went n (server.control_place (server.incoming r c x) x.session (control_came x.session (server.incoming r c x)).peer)
+    (acted n x.address (control_came x.session (server.incoming r c x)) c) answer) answer)
     → CourseStands means before core out (server.to_client r n c)
 unfolding server.to_client
 taken_in_all means before core out n r c x answer at told_is h =
     let o = control_came x.session (server.incoming r c x) in
+    let reached = server.control_place (server.incoming r c x) x.session o.peer in
     subst (λ y. CourseStands means before core out (server.control_for r n c y)) (sym at)
-    (subst (λ (a : Result Turn Refused). CourseStands means before core out (server.control_answered n x (server.incoming r c x) (acted n x.address o c) a)) told_is
-    (subst (CourseStands means before core out) (told_went n x (server.incoming r c x) (acted n x.address o c) answer) h))
+    (subst (λ (a : Result Turn Refused). CourseStands means before core out (server.control_answered n reached (acted n x.address o c) a)) told_is
+    (subst (CourseStands means before core out) (told_went n reached (acted n x.address o c) answer) h))
 
 pub nobody_takes : {S : Type 0} (means : S → Peer → Type 0) (before : List Action) (core : ServerCore S) (out : Contents) (n : ℕ) (r : server.ControlPacket) (c : Course)
     → client_here c.table n ≡ None → CourseStands means before core out c → CourseStands means before core out (server.to_client r n c)
@@ -329,6 +333,7 @@ pub told_in_all : {S : Type 0} (means : S → Peer → Type 0) (before : List Ac
     → ((before : List Action) (c : Course) → CourseStands means before mid between c → CourseStands means before core out (told m c answer))
     → CourseStands means before core out (server.to_client r n c)
 told_in_all means before mid core between out n m r c x answer at took is tells =
-    let c1 : Course = went n (server.control_session (server.incoming r c x) x.session) (acted n x.address (control_came x.session (server.incoming r c x)) c) answer in
+    let o = control_came x.session (server.incoming r c x) in
+    let c1 : Course = went n (server.control_place (server.incoming r c x) x.session o.peer) (acted n x.address o c) answer in
     taken_in_all means before core out n r c x answer at took.answered
     (subst (λ (m : ℕ). CourseStands means before core out (told m c1 answer)) is (tells before c1 took.course))

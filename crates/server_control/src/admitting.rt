@@ -22,7 +22,7 @@ use peer_table::{ClientSession, Refused, Turn};
 use server_state::{ClientFile, ClientState, ServerCore};
 use std::alloc::Global;
 use tls_crypt::{Opened, StaticKey};
-use vpn_base::{Addr, Conn, Draw, Moment, NoMemory, Role, Sid, Timers};
+use vpn_base::{Addr, Conn, Draw, Moment, NoMemory, Place, Role, Sid, Timers};
 use vpn_links::{Kind, Outbox};
 
 // The server's session id for a client: the first bytes of the draw.
@@ -49,8 +49,8 @@ fn begun<S: ClientSession>(session: S, now: Moment) -> ClientState<S>
     }
 }
 
-// A client begins and takes its first packet: the client, the number of the key session to which the packet
-// goes, and the answer. After want of memory the outbox is as before.
+// A client begins and takes its first packet: the client, the key session to which the packet goes, and the
+// answer. After want of memory the outbox is as before.
 fn begin<S: ClientSession + Drop>(
     alloc: Global,
     key: &StaticKey,
@@ -64,7 +64,7 @@ fn begin<S: ClientSession + Drop>(
     opened: &Opened<'_>,
     view: &ControlView<'_>,
     out: &mut Outbox,
-) -> Result<(ClientState<S>, u64, Result<Turn, Refused>), NoMemory>
+) -> Result<(ClientState<S>, Option<Place>, Result<Turn, Refused>), NoMemory>
     requires window { 1 ≤ timers.win }
     requires some_timeout { 1 ≤ timers.timeout }
     requires short_timeout { timers.timeout ≤ 60 }
@@ -84,10 +84,13 @@ fn begin<S: ClientSession + Drop>(
         Ok(session) => session,
         Err(NoMemory) => return Err(NoMemory),
     };
+    let number = session.control_session(opened.first % 8, now);
     let mut client = begun(session, now);
-    let number = client.session.control_session(opened.first % 8, now);
     match take(&mut client, from, kind, opened, view, next_conn, now, out) {
-        Ok(answer) => Ok((client, number, answer)),
+        Ok(answer) => {
+            let reached = client.session.place_numbered(number);
+            Ok((client, reached, answer))
+        }
         Err(NoMemory) => {
             out.cut(effects, staged);
             Err(NoMemory)
@@ -136,7 +139,7 @@ fn admit_first<S: ClientSession + Drop>(
     let Ok(()) = core.clients.reserve() else {
         return Err(NoMemory);
     };
-    let (client, number, answer) = match begin(
+    let (client, reached, answer) = match begin(
         alloc, &core.key, timers, own, conn, next_conn, now, from, kind, opened, view, out,
     ) {
         Ok(begun) => begun,
@@ -147,7 +150,7 @@ fn admit_first<S: ClientSession + Drop>(
     };
     core.turn = cid;
     core.connections += 1;
-    core.last_taken = last_after(answer, (cid, number), core.last_taken);
+    core.last_taken = last_after(answer, reached, core.last_taken);
     Ok(answer)
 }
 

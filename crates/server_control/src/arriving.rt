@@ -18,6 +18,7 @@ use crate::taking::to_client;
 use opcode_codec::{ControlView, Opcode, read_control};
 use peer_table::ClientSession;
 use server_state::{ServerCore, a_core_ahead_is_sound};
+use server_table::what_is_done_is_no_refusal;
 use std::alloc::Global;
 use tls_crypt::{Opened, Wrap, Wrapper};
 use vpn_base::{Addr, Draw, NoMemory, Role};
@@ -66,6 +67,7 @@ fn of_nobody<S: ClientSession + Drop>(
         is_refusal (outs (server.of_nobody (record { from = from; bytes = bytes; lacks = lacks }) draw.now (packet_of opened.now view.now) c (server.begins_client op (packet_of opened.now view.now)))) ≡ false) }
 {
     a_core_ahead_is_sound::<S>();
+    what_is_done_is_no_refusal();
     if !begins_client(op, opened, view) {
         core.report(Note::UnknownSession { sid: opened.sid }, out);
         return Ok(());
@@ -114,6 +116,7 @@ fn find_client<S: ClientSession + Drop>(
     ensures lacking { OnErr result ((before : List Action) (c : Course) (bytes : List ℕ) (lacks : Bool) → CourseStands S.stands before core.old out.old c → c.effects ≡ [] →
         is_refusal (outs (server.control_at (record { from = from; bytes = bytes; lacks = lacks }) draw.now op (packet_of opened.now view.now) c (by_session c.table from opened.now.sid))) ≡ false) }
 {
+    what_is_done_is_no_refusal();
     match core.by_session(from, opened.sid) {
         None => of_nobody(core, alloc, from, draw, op, kind, opened, view, out),
         Some(cid) => {

@@ -21,7 +21,7 @@ use opcode_codec::ControlView;
 use peer_table::{ClientSession, Refused, Turn};
 use server_state::{ClientState, ServerCore, a_core_ahead_is_sound, count_opened};
 use tls_crypt::Opened;
-use vpn_base::{Addr, Cid, Conn, Moment, NoMemory};
+use vpn_base::{Addr, Conn, Moment, NoMemory, Place};
 use vpn_links::{Kind, Outbox};
 
 // Makes a session and the outbox ready for an event, with room for what may be told then.
@@ -109,16 +109,16 @@ pub(crate) fn take<S: ClientSession>(
     }
 }
 
-// The client and the key session to which the last datagram went.
+// The key session to which the last datagram went: it reached this one where it was taken.
 pub(crate) fn last_after(
     answer: Result<Turn, Refused>,
-    went: (Cid, u64),
-    last: Option<(Cid, u64)>,
-) -> Option<(Cid, u64)>
-    ensures { result ≡ last_after answer went last }
+    reached: Option<Place>,
+    last: Option<Place>,
+) -> Option<Place>
+    ensures { result ≡ last_after answer reached last }
 {
     match answer {
-        Ok(_) => Some(went),
+        Ok(_) => reached,
         Err(_) => last,
     }
 }
@@ -174,24 +174,15 @@ fn take_at<S: ClientSession>(
     server_state::calls_are_put_into_courses::<S>();
     let now = core.moment;
     let next_conn = Conn(core.connections);
-    let cid = core.turn;
     let done = out.count();
-    let session = &core.clients.look_at(i).session;
-    let number = session.control_session(opened.first % 8, now);
-    match take(
-        core.clients.value_at(i),
-        to,
-        kind,
-        opened,
-        view,
-        next_conn,
-        now,
-        out,
-    ) {
+    let client = core.clients.value_at(i);
+    let number = client.session.control_session(opened.first % 8, now);
+    match take(client, to, kind, opened, view, next_conn, now, out) {
         Err(NoMemory) => Err(NoMemory),
         Ok(answer) => {
+            let reached = client.session.place_numbered(number);
             core.connections += opened_since(out, done);
-            core.last_taken = last_after(answer, (cid, number), core.last_taken);
+            core.last_taken = last_after(answer, reached, core.last_taken);
             Ok(answer)
         }
     }

@@ -18,6 +18,7 @@ use peer_table::ClientSession;
 use server_answers::{engine_answered, file_came};
 use server_engine::{by_connection, engine_is_down};
 use server_state::{ServerCore, a_core_ahead_is_sound};
+use server_table::what_is_done_is_no_refusal;
 use server_time::tick;
 use std::alloc::Global;
 use vpn_base::{Conn, Draw, NoMemory};
@@ -42,6 +43,7 @@ fn engine_down<S: ClientSession + Drop>(
         is_refusal (outs (definitions.engine_is_down conn c)) ≡ false) }
 {
     a_core_ahead_is_sound::<S>();
+    what_is_done_is_no_refusal();
     match by_connection(core, conn) {
         None => {
             core.report(Note::UnknownConn { conn }, out);
@@ -96,6 +98,7 @@ pub(crate) fn came<S: ClientSession + Drop>(
     ensures length { length buffer.new ≡ 65536 }
 {
     a_core_ahead_is_sound::<S>();
+    what_is_done_is_no_refusal();
     match kind {
         Kind::Datagram { from, bytes } => {
             datagram_came(

@@ -5,6 +5,7 @@ mod beginning;
 mod datagrams;
 mod dispatch;
 mod lines;
+mod senders;
 mod server;
 mod taking;
 

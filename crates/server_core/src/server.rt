@@ -7,11 +7,13 @@ ghost use Rattle.vpn_links.specs.Actions.{Holds, HasRoom};
 ghost use Rattle.vpn_links.specs.Rounds.{IsOfLine};
 ghost use Rattle.vpn_links.specs.Steps.{LacksAll, Stepped};
 ghost use Rattle.server_table.specs.Runs.{MayLack};
+ghost use Rattle.server_table.specs.Senders.{sent_by};
 ghost use Rattle.server_table.specs.Table.{Table, table_begun};
 ghost use Rattle.server_state.specs.Core.{CoreStands, IsSound};
 ghost use Rattle.server_core.specs.Steps.{next_table, told_of};
 
 use crate::datagrams::LONGEST;
+use crate::senders::sent_by;
 use crate::taking::take;
 use ovpn_config::Settings;
 use peer_table::ClientSession;
@@ -19,7 +21,7 @@ use server_state::ServerCore;
 use std::alloc::Global;
 use std::marker::Model;
 use tls_crypt::StaticKey;
-use vpn_base::NoMemory;
+use vpn_base::{Addr, NoMemory, Place};
 use vpn_links::{Event, Machine, Outbox};
 
 /// A core that takes events for as long as it is sound, which it stays.
@@ -50,6 +52,14 @@ pub trait EventCore {
         ensures lacking { OnErr result (HasRoom out.old → (t : Table) → stands self.old t → MayLack t event.entry.now LacksAll) }
         ensures sound { sound self.new }
         ensures length { length buffer.new ≡ 65536 };
+
+    /// The key session that sent a datagram to this address, by what the datagram tells.
+    fn sent_by(&self, to: Addr, datagram: &[u8]) -> Option<Place>
+        ensures { (t : Table) → stands self.now t → result ≡ sent_by t to datagram.now };
+
+    /// The key session to which the datagram of the last event went, if it went to one.
+    fn last_taken(&self) -> Option<Place>
+        ensures { (t : Table) → stands self.now t → result ≡ t.last_taken };
 }
 
 impl<S: ClientSession + Drop> EventCore for ServerCore<S> {
@@ -67,6 +77,14 @@ impl<S: ClientSession + Drop> EventCore for ServerCore<S> {
         out: &mut Outbox,
     ) -> Result<(), NoMemory> {
         take(self, alloc, event, buffer, out)
+    }
+
+    fn sent_by(&self, to: Addr, datagram: &[u8]) -> Option<Place> {
+        sent_by(self, to, datagram)
+    }
+
+    fn last_taken(&self) -> Option<Place> {
+        self.last_taken
     }
 }
 
@@ -115,6 +133,25 @@ impl<S: ClientSession + Drop> Server<ServerCore<S>> {
             core,
             buffer,
         })
+    }
+}
+
+impl<C: EventCore + Drop> Server<C> {
+    /// The key session that sent a datagram to this address, by what the datagram tells: an open one with its key
+    /// id, which a data packet names by the peer id and a control packet by the server's session id. Of several it
+    /// is the one of the least client number. A datagram that is no packet was sent by none.
+    pub fn sent_by(&self, to: Addr, datagram: &[u8]) -> Option<Place>
+        ensures { (t : Table) → C.stands self.now t → result ≡ sent_by t to datagram.now }
+    {
+        self.core.sent_by(to, datagram)
+    }
+
+    /// The key session to which the datagram of the last event went, if that was a control packet that nothing
+    /// refused or a data packet that opened, be it stale. An event that found no memory does not count.
+    pub fn last_taken(&self) -> Option<Place>
+        ensures { (t : Table) → C.stands self.now t → result ≡ t.last_taken }
+    {
+        self.core.last_taken()
     }
 }
 

@@ -1,6 +1,6 @@
 //! A core takes an event, or has not changed.
 
-ghost use Rattle.std.specs.Prelude.{◌≡◌, ◌≤◌, ◌^◌, [], List, length, option_map, OnOk, OnErr};
+ghost use Rattle.std.specs.Prelude.{◌≡◌, ◌≤◌, ◌^◌, [], List, length, OnOk, OnErr};
 ghost use Rattle.vpn_links.specs.Actions as links;
 ghost use Rattle.vpn_links.specs.Actions.{Action, Contents, Holds};
 ghost use Rattle.vpn_links.specs.Rounds.{IsOfLine};
@@ -17,7 +17,7 @@ use crate::dispatch::came;
 use peer_table::ClientSession;
 use server_state::ServerCore;
 use std::alloc::Global;
-use vpn_base::{Cid, Moment, NoMemory};
+use vpn_base::{Cid, Moment, NoMemory, Place};
 use vpn_links::{Event, Outbox};
 
 // The room of an outbox that was made, which events that take no memory need.
@@ -26,13 +26,9 @@ const EFFECTS: usize = 4;
 const BYTES: usize = 4_096;
 
 // A step that found no memory is taken back: the event does not count.
-fn take_back<S: ClientSession>(
-    core: &mut ServerCore<S>,
-    moment: Moment,
-    last_taken: Option<(Cid, u64)>,
-)
+fn take_back<S: ClientSession>(core: &mut ServerCore<S>, moment: Moment, last_taken: Option<Place>)
     ensures back { (before : List Action) (out : Contents) (t : Table) (event : Event) → CourseStands S.stands before core.old out (course_begun t event) → moment.0 ≡ t.moment →
-        option_map (λ went. (went.0.0, went.1)) last_taken ≡ t.last_taken → CoreStands S.stands core.new t }
+        last_taken ≡ t.last_taken → CoreStands S.stands core.new t }
     ensures sound { IsSoundAhead S.goes_on S.count S.since core.old → NoneIsLater S.since moment.0 core.old → moment.0 ≤ 2 ^ 52 → IsSound S.goes_on S.count S.since core.new }
 {
     core.moment = moment;

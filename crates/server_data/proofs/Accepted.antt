@@ -3,14 +3,14 @@ use Rattle.std.proofs.Common.{◌≡◌, ℕ, Bool, List, length, drop, slice_ge
 use Rattle.std.specs.Prelude.{◌&&◌, not}
 use Rattle.vpn_base.specs.declared.address.Addr.{Addr}
 use Rattle.vpn_base.specs.declared.names.Cid.{Cid}
+use Rattle.vpn_base.specs.declared.names.Place.{Place}
 use Rattle.vpn_links.specs.Actions.{Action, Contents}
 use Rattle.client_table.specs.declared.table.ClientTable.{ClientTable}
 use Rattle.client_table.specs.Changes as table
 use Rattle.client_table.specs.Entries.{Entry}
 use Rattle.client_table.specs.Tables.{entries_of}
 use Rattle.peer_table.specs.declared.outcomes.SessionFault.{SessionFault}
-use Rattle.peer_table.specs.DataPackets.{data_came, data_kid}
-use Rattle.peer_table.specs.KeySessions.{usable_with}
+use Rattle.peer_table.specs.DataPackets.{data_came}
 use Rattle.peer_table.specs.Outboxes.{TellsOpened}
 use Rattle.peer_table.specs.Peer.{Peer}
 use Rattle.server_table.specs.Courses.{Course, counted, with_client}
@@ -21,12 +21,12 @@ use Rattle.server_state.specs.declared.client.ClientState.{ClientState}
 use Rattle.server_state.specs.declared.state.ServerCore.{ServerCore}
 use Rattle.server_state.specs.Core.{AreInTurn, CoreStands, CourseStands, FileStands, IsOfClient, StateStands, name_once}
 use Rattle.server_state.specs.Places.{IsChangedAt, IsThere}
-use Rattle.server_data.specs.internal.Opening.{Opens, after_opening, beside, by_numbers}
+use Rattle.server_data.specs.internal.Opening.{Opens, after_opening}
 use Rattle.server_data.proofs.Learned.{value_is}
 use Rattle.server_data.proofs.Opened.{changed_id, here_changed, keeps}
 
-pub accepted_is : {S : Type 0} (means : S → Peer → Type 0) (core : ServerCore S) (t : Table) (a : Option (Cid × ℕ)) (b bytes : ℕ) (went : Option (ℕ × ℕ)) → CoreStands means core t
-    → by_numbers a ≡ went → b ≡ counted core.bytes_in bytes
+pub accepted_is : {S : Type 0} (means : S → Peer → Type 0) (core : ServerCore S) (t : Table) (a : Option Place) (b bytes : ℕ) (went : Option Place) → CoreStands means core t
+    → a ≡ went → b ≡ counted core.bytes_in bytes
     → CoreStands means (record core { last_taken = a; bytes_in = b }) (record t { last_taken = went; bytes_in = counted t.bytes_in bytes })
 accepted_is means core t a b bytes went h is more = record {
   settings = h.settings;
@@ -66,7 +66,7 @@ of_client means e m x y w h peer_id address remote name established file kept st
 module _ {S : Type 0} (means : S → Peer → Type 0) (before : List Action) (core : ServerCore S) (out : Contents) (c : Course) (m i : ℕ) (from : Addr) (D E : List ℕ)
     (h : CourseStands means before core out c) (there : IsThere means core c.table m i) (v w : ClientState S)
     (at : option_map (λ e. e.value) (slice_get (entries_of core.clients) i) ≡ Some v) (ct : ClientTable (ClientState S)) (is : IsChangedAt core i (table.with_value w) ct)
-    (file : w.file ≡ v.file) (number : Option ℕ) (number_is : (p : Peer) → means v.session p → number ≡ usable_with p.timers core.moment.0 p.sessions (data_kid D)) where
+    (file : w.file ≡ v.file) (to : Option Place) (to_is : (p : Peer) → means v.session p → to ≡ server.data_place core.moment.0 D p) where
   abbrev pub x : Client
   x = there.client
 
@@ -79,12 +79,12 @@ module _ {S : Type 0} (means : S → Peer → Type 0) (before : List Action) (co
   state_was : StateStands means v x
   state_was = subst (λ v. StateStands means v x) value_same there.stands.state
 
-  session_is : number ≡ server.data_session c.table x D
-  session_is = number_is x.session state_was.session ∙ ap (λ now. usable_with x.session.timers now x.session.sessions (data_kid D)) h.table.moment
+  place_is : to ≡ server.data_place c.table.moment D x.session
+  place_is = to_is x.session state_was.session ∙ ap (λ (now : ℕ). server.data_place now D x.session) h.table.moment
 
   ok_step : (core1 core2 core3 : ServerCore S) (out2 out3 : Contents) (lacks : Bool) (size bytes : ℕ) (inner : List ℕ) → bytes ≡ length D → inner ≡ drop 24 E
       → ((t : Table) → CoreStands means (record core { clients = ct }) t
-      → CoreStands means core1 (record t { last_taken = beside m number; bytes_in = counted t.bytes_in bytes }))
+      → CoreStands means core1 (record t { last_taken = to; bytes_in = counted t.bytes_in bytes }))
       → core1.turn ≡ core.turn → core1.mark ≡ core.mark
       → ((before : List Action) (c : Course) (x : Client) → CourseStands means before core1 out c → client_here c.table m ≡ Some x
       → CourseStands means before core2 out2 (server.moved m from x c))
@@ -104,14 +104,14 @@ module _ {S : Type 0} (means : S → Peer → Type 0) (before : List Action) (co
       (subst (λ (now : ℕ). StateStands means w (server.with_opened now peer (length D) x)) h.table.moment state))
       (λ y. refl) in
       let s1 : CourseStands means before core1 out c1 = record {
-        table = subst (λ k. CoreStands means core1 (record t1 { last_taken = beside m k; bytes_in = counted c.table.bytes_in (length D) })) session_is
-            (subst (λ k. CoreStands means core1 (record t1 { last_taken = beside m number; bytes_in = counted c.table.bytes_in k })) len (accept t1 h1));
+        table = subst (λ (last : Option Place). CoreStands means core1 (record t1 { last_taken = last; bytes_in = counted c.table.bytes_in (length D) })) place_is
+            (subst (λ k. CoreStands means core1 (record t1 { last_taken = to; bytes_in = counted c.table.bytes_in k })) len (accept t1 h1));
         outbox = h.outbox;
         in_turn = subst (λ n. AreInTurn n core1.mark c.staged) (sym (ap (λ (cid : Cid). cid.0) turn)) (subst (λ k. AreInTurn core.turn.0 k c.staged) (sym mark) h.in_turn);
       } in
       let s2 : CourseStands means before core2 out2 (server.moved m from (g x) c1) =
       follow before c1 (g x) s1
-      (here_changed c.table m g x (beside m (server.data_session c.table x D)) (counted c.table.bytes_in (length D)) there.client_there refl) in
+      (here_changed c.table m g x (server.data_place c.table.moment D x.session) (counted c.table.bytes_in (length D)) there.client_there refl) in
       let s3 : CourseStands means before core2 out2 (server.moved m from x c1) =
       subst (λ r. CourseStands means before core2 out2 (server.moved_if m from c1 (not (is_address x.address from) && not (server.is_taken c1.table m from r)))) remote s2 in
       subst (λ inner. CourseStands means before core3 out3 (server.carried lacks m inner (server.moved m from x c1))) (inner_is ∙ told.1)
@@ -121,7 +121,7 @@ module _ {S : Type 0} (means : S → Peer → Type 0) (before : List Action) (co
   pub ok_opened : (core1 core2 core3 : ServerCore S) (out2 out3 : Contents) (lacks : Bool) (size bytes : ℕ) (inner : List ℕ) → bytes ≡ length D → inner ≡ drop 24 E
       → ((x : Client) → StateStands means v x → Opens means w E core.moment.0 (length D) x (Ok size) (data_came D core.moment x.session))
       → ((t : Table) → CoreStands means (record core { clients = ct }) t
-      → CoreStands means core1 (record t { last_taken = beside m number; bytes_in = counted t.bytes_in bytes }))
+      → CoreStands means core1 (record t { last_taken = to; bytes_in = counted t.bytes_in bytes }))
       → core1.turn ≡ core.turn → core1.mark ≡ core.mark
       → ((before : List Action) (c : Course) (x : Client) → CourseStands means before core1 out c → client_here c.table m ≡ Some x
       → CourseStands means before core2 out2 (server.moved m from x c))
@@ -137,7 +137,7 @@ module _ {S : Type 0} (means : S → Peer → Type 0) (before : List Action) (co
       (ok_step core1 core2 core3 out2 out3 lacks size bytes inner len inner_is accept turn mark follow carry o.peer o.answer k.remote k.name s.state s.told))
 
   err_step : (core2 : ServerCore S) (out2 : Contents) (lacks : Bool) (fault : SessionFault)
-      → ((before : List Action) (c : Course) (d : server.FromWire) (x : Client) → number ≡ server.data_session c.table x d.bytes
+      → ((before : List Action) (c : Course) (d : server.FromWire) (x : Client) → to ≡ server.data_place c.table.moment d.bytes x.session
       → CourseStands means before (record core { clients = ct }) out c → CourseStands means before core2 out2 (server.refused d m x c fault))
       → (peer : Peer) (a : Result (List ℕ) SessionFault) → ((f : SessionFault) → a ≡ Err f → peer ≡ x.session)
       → StateStands means w (after_opening core.moment.0 (length D) x peer a) → TellsOpened (Err fault) E a
@@ -150,12 +150,12 @@ module _ {S : Type 0} (means : S → Peer → Type 0) (before : List Action) (co
       subst (λ clients. CoreStands means (record core { clients = ct }) (record c.table { clients = clients })) (changed_id m c.table.clients)
       (there.changed ct (table.with_value w) (λ y. y) is there.here (of_client means there.entry m x x w there.stands refl refl refl refl refl refl file_kept state1) (λ y. refl)) in
       subst (λ f. CourseStands means before core2 out2 (server.refused d m x c f)) told
-      (refuse before c d x session_is (record { table = h1; outbox = h.outbox; in_turn = h.in_turn }))
+      (refuse before c d x place_is (record { table = h1; outbox = h.outbox; in_turn = h.in_turn }))
 
   -- a packet is refused
   pub err_opened : (core2 : ServerCore S) (out2 : Contents) (lacks : Bool) (fault : SessionFault)
       → ((x : Client) → StateStands means v x → Opens means w E core.moment.0 (length D) x (Err fault) (data_came D core.moment x.session))
-      → ((before : List Action) (c : Course) (d : server.FromWire) (x : Client) → number ≡ server.data_session c.table x d.bytes
+      → ((before : List Action) (c : Course) (d : server.FromWire) (x : Client) → to ≡ server.data_place c.table.moment d.bytes x.session
       → CourseStands means before (record core { clients = ct }) out c → CourseStands means before core2 out2 (server.refused d m x c fault))
       → CourseStands means before core2 out2 (server.data_for (record { from = from; bytes = D; lacks = lacks }) m c (client_here c.table m))
   err_opened core2 out2 lacks fault opens refuse =

@@ -2,10 +2,10 @@
 use Rattle.std.proofs.Common.{◌≡◌, ℕ, zero, suc, Bool, true, false, cond, List, [], ◌∷◌, slice_get, Option, Some, None, Result, Err, refl, sym, ap, ◌∙◌}
 use Rattle.std.specs.Prelude.{unwrap_or, is_some}
 use Rattle.std.proofs.lemmas.Bool.{false≢true}
-use Rattle.vpn_base.specs.declared.names.Cid.{Cid}
 use Rattle.vpn_base.specs.declared.names.Freshness.{Freshness}
 use Rattle.vpn_base.specs.declared.names.Freshness.TheVariants.{Fresh, Zero, Old, Seen, Late}
 use Rattle.vpn_base.specs.declared.names.Moment.{Moment}
+use Rattle.vpn_base.specs.declared.names.Place.{Place}
 use Rattle.vpn_links.specs.Actions.{Action, Contents}
 use Rattle.peer_table.specs.declared.outcomes.SessionFault.{SessionFault}
 use Rattle.peer_table.specs.DataPackets as packets
@@ -18,13 +18,12 @@ use Rattle.server_table.specs.DataDatagrams as server
 use Rattle.server_table.specs.Lookups.{client_here, if_here}
 use Rattle.server_table.specs.Table.{Client, Table}
 use Rattle.server_state.specs.declared.state.ServerCore.{ServerCore}
-use Rattle.server_data.specs.internal.Opening.{beside, by_numbers}
 use Rattle.server_state.specs.Core.{CoreStands, CourseStands}
 
 -- ---- what is told of the last datagram
 
-pub with_last_taken : {S : Type 0} (means : S → Peer → Type 0) (core : ServerCore S) (t : Table) (a : Option (Cid × ℕ)) (b : Option (ℕ × ℕ)) → CoreStands means core t
-    → by_numbers a ≡ b → CoreStands means (record core { last_taken = a }) (record t { last_taken = b })
+pub with_last_taken : {S : Type 0} (means : S → Peer → Type 0) (core : ServerCore S) (t : Table) (a b : Option Place) → CoreStands means core t
+    → a ≡ b → CoreStands means (record core { last_taken = a }) (record t { last_taken = b })
 with_last_taken means core t a b h is = record {
   settings = h.settings;
   key = h.key;
@@ -46,11 +45,11 @@ with_last_taken means core t a b h is = record {
 }
 
 -- a stale packet went to its session
-pub stale_is : {S : Type 0} (means : S → Peer → Type 0) (before : List Action) (core : ServerCore S) (out : Contents) (c : Course) (n : ℕ) (a : Option (Cid × ℕ)) (number k : Option ℕ)
-    → CourseStands means before core out c → by_numbers a ≡ beside n number → number ≡ k
-    → CourseStands means before (record core { last_taken = a }) out (record c { table = server.went_to n k c.table })
-stale_is means before core out c n a number k h is same =
-    record { table = with_last_taken means core c.table a (beside n k) h.table (is ∙ ap (beside n) same); outbox = h.outbox; in_turn = h.in_turn }
+pub stale_is : {S : Type 0} (means : S → Peer → Type 0) (before : List Action) (core : ServerCore S) (out : Contents) (c : Course) (a b : Option Place)
+    → CourseStands means before core out c → a ≡ b
+    → CourseStands means before (record core { last_taken = a }) out (record c { table = server.went_to b c.table })
+stale_is means before core out c a b h is =
+    record { table = with_last_taken means core c.table a b h.table is; outbox = h.outbox; in_turn = h.in_turn }
 
 -- ---- the session
 
@@ -107,7 +106,7 @@ from_here (Some y) x e =
     (h.0, sym (ap (λ o. (unwrap_or o x).is_here) h.0) ∙ h.1)
 
 -- the client of the number, after a change
-pub here_changed : (t : Table) (n : ℕ) (g : Client → Client) (x : Client) (went : Option (ℕ × ℕ)) (bytes : ℕ) → client_here t n ≡ Some x → (g x).is_here ≡ x.is_here
+pub here_changed : (t : Table) (n : ℕ) (g : Client → Client) (x : Client) (went : Option Place) (bytes : ℕ) → client_here t n ≡ Some x → (g x).is_here ≡ x.is_here
     → client_here (record (with_client n g t) { last_taken = went; bytes_in = bytes }) n ≡ Some (g x)
 unfolding client_here
 here_changed t n g x went bytes here same =

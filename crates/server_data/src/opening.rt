@@ -6,18 +6,19 @@ ghost use Rattle.client_table.specs.Changes.{place_of};
 ghost use Rattle.client_table.specs.Tables.{entries_of};
 ghost use Rattle.peer_table.specs.DataPackets.{data_came, data_kid};
 ghost use Rattle.peer_table.specs.Outboxes.{HasRoom, Uses};
+ghost use Rattle.peer_table.specs.Peer.{Peer};
 ghost use Rattle.server_table.specs.Courses.{Course, counted};
 ghost use Rattle.server_table.specs.DataDatagrams as server;
 ghost use Rattle.server_table.specs.Lookups.{client_here};
 ghost use Rattle.server_table.specs.Table.{Client, Table};
 ghost use Rattle.server_state.specs.Core.{CoreStands, CourseStands, IsSound, StateStands};
-ghost use Rattle.server_data.specs.internal.Opening.{Opens, beside, by_numbers};
+ghost use Rattle.server_data.specs.internal.Opening.{Opens};
 
 use crate::moving::follow;
 use crate::passing::carry;
 use peer_table::{ClientSession, SessionFault};
 use server_state::{ClientState, ServerCore, count_up};
-use vpn_base::{Addr, Cid, Moment};
+use vpn_base::{Addr, Cid, Moment, Place};
 use vpn_links::{Note, Outbox};
 
 // The key id in a datagram's first byte.
@@ -27,6 +28,16 @@ fn kid_in(datagram: &[u8]) -> u8
     match datagram.first() {
         None => 0,
         Some(first) => first % 8,
+    }
+}
+
+// The key session to which a data packet goes that opens now: the usable one with its key id.
+fn find_session<S: ClientSession>(session: &S, datagram: &[u8], now: Moment) -> Option<Place>
+    ensures { (p : Peer) → S.stands session.now p → result ≡ server.data_place now.0 datagram.now p }
+{
+    match session.data_session(kid_in(datagram), now) {
+        None => None,
+        Some(number) => session.place_numbered(number),
     }
 }
 
@@ -67,26 +78,16 @@ fn open<S: ClientSession>(
     }
 }
 
-// The number of a key session, beside its client.
-fn beside(cid: Cid, number: Option<u64>) -> Option<(Cid, u64)>
-    ensures { by_numbers result ≡ beside cid.0 number }
-{
-    match number {
-        None => None,
-        Some(number) => Some((cid, number)),
-    }
-}
-
 // Why a data packet is refused.
 fn refuse<S: ClientSession>(
     core: &mut ServerCore<S>,
     cid: Cid,
-    number: Option<u64>,
+    went: Option<Place>,
     fault: SessionFault,
     out: &mut Outbox,
 )
     requires { HasRoom out.old 1 0 }
-    ensures refused { (before : List Action) (c : Course) (d : server.FromWire) (x : Client) → number ≡ server.data_session c.table x d.bytes →
+    ensures refused { (before : List Action) (c : Course) (d : server.FromWire) (x : Client) → went ≡ server.data_place c.table.moment d.bytes x.session →
         CourseStands S.stands before core.old out.old c → CourseStands S.stands before core.new out.new (server.refused d cid.0 x c fault) }
     ensures sound { IsSound S.goes_on S.count S.since core.old → IsSound S.goes_on S.count S.since core.new }
     ensures uses { Uses out.old out.new 1 0 }
@@ -95,7 +96,7 @@ fn refuse<S: ClientSession>(
         SessionFault::BadKey { kid } => core.report(Note::BadKey { cid, kid }, out),
         SessionFault::NotSealed => core.report(Note::NotSealed { cid }, out),
         SessionFault::Stale { kind, id, greatest } => {
-            core.last_taken = beside(cid, number);
+            core.last_taken = went;
             core.report(
                 Note::Stale {
                     cid,
@@ -111,14 +112,14 @@ fn refuse<S: ClientSession>(
 
 // A data packet was opened by the client at this place, and its id was fresh.
 #[tactic(auto, using(crate::proofs::Accepted::accepted_is))]
-fn accept<S: ClientSession>(core: &mut ServerCore<S>, cid: Cid, number: Option<u64>, bytes: usize)
+fn accept<S: ClientSession>(core: &mut ServerCore<S>, went: Option<Place>, bytes: usize)
     ensures accepted { (t : Table) → CoreStands S.stands core.old t → CoreStands S.stands core.new
-        (record t { last_taken = beside cid.0 number; bytes_in = counted t.bytes_in bytes }) }
+        (record t { last_taken = went; bytes_in = counted t.bytes_in bytes }) }
     ensures turn_stays { core.new.turn ≡ core.old.turn }
     ensures mark_stays { core.new.mark ≡ core.old.mark }
     ensures sound { IsSound S.goes_on S.count S.since core.old → IsSound S.goes_on S.count S.since core.new }
 {
-    core.last_taken = beside(cid, number);
+    core.last_taken = went;
     core.bytes_in = count_up(core.bytes_in, bytes);
 }
 
@@ -148,19 +149,15 @@ pub(crate) fn open_at<S: ClientSession>(
     server_state::a_changed_core_is_sound::<S>();
     let now = core.moment;
     let bytes = datagram.len();
-    let number = core
-        .clients
-        .look_at(i)
-        .session
-        .data_session(kid_in(datagram), now);
+    let went = find_session(&core.clients.look_at(i).session, datagram, now);
     match open(core.clients.value_at(i), datagram, now) {
         Ok(_) => {
-            accept(core, cid, number, bytes);
+            accept(core, went, bytes);
             follow(core, cid, from, out);
             carry(core, cid, behind_head(datagram), out)
         }
         Err(fault) => {
-            refuse(core, cid, number, fault, out);
+            refuse(core, cid, went, fault, out);
             false
         }
     }

@@ -84,7 +84,7 @@ pub record CoreStands {S : Type 0} (means : S → Peer → Type 0) (core : Serve
   pub counted_at : core.counted_at.0 ≡ t.counted_at
   pub is_stopped : core.is_stopped ≡ t.is_stopped
   pub events : core.events ≡ t.events
-  pub last_taken : option_map (λ went. (went.0.0, went.1)) core.last_taken ≡ t.last_taken
+  pub last_taken : core.last_taken ≡ t.last_taken
 
 -- Whose turn it is: control datagrams of other clients stand before a mark, and their numbers are lower; those behind it are of the client whose
 -- turn it is.

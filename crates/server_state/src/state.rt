@@ -7,7 +7,7 @@ use client_table::ClientTable;
 use ovpn_config::Settings;
 use route_table::RouteTable;
 use tls_crypt::StaticKey;
-use vpn_base::{Cid, Ip4, Moment};
+use vpn_base::{Cid, Ip4, Moment, Place};
 
 /// A server's core.
 #[derive(Drop)]
@@ -42,8 +42,8 @@ pub struct ServerCore<S> {
     pub is_stopped: bool,
     /// How many events it took.
     pub events: u64,
-    /// The client and the number of the key session to which the datagram of the last event went.
-    pub last_taken: Option<(Cid, u64)>,
+    /// The key session to which the datagram of the last event went.
+    pub last_taken: Option<Place>,
     /// The client whose turn it is in a step.
     pub turn: Cid,
     /// How many control datagrams were staged when its turn began.

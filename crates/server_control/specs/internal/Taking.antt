@@ -1,8 +1,8 @@
 -- What comes of a control packet, in two steps: what its session does, and what is told of it.
-use Rattle.std.specs.Prelude.{◌≡◌, ℕ, List, Option, Some, Result, Ok, Err}
+use Rattle.std.specs.Prelude.{◌≡◌, ℕ, List, Option, Result, Ok, Err}
 use Rattle.vpn_base.specs.declared.errors.NoMemory.{NoMemory}
-use Rattle.vpn_base.specs.declared.names.Cid.{Cid}
 use Rattle.vpn_base.specs.declared.names.Moment.{Moment}
+use Rattle.vpn_base.specs.declared.names.Place.{Place}
 use Rattle.vpn_links.specs.Actions.{Action, Contents}
 use Rattle.vpn_links.specs.declared.notes.Note.TheVariants as notes
 use Rattle.peer_table.specs.declared.outcomes.Refused.{Refused}
@@ -11,7 +11,7 @@ use Rattle.peer_table.specs.declared.outcomes.Turn.{Turn}
 use Rattle.peer_table.specs.declared.outcomes.Turn.TheVariants.{Over}
 use Rattle.peer_table.specs.ControlPackets.{control_came}
 use Rattle.peer_table.specs.Peer.{Peer}
-use Rattle.server_table.specs.ControlDatagrams.{ControlPacket, control_session, incoming, with_fresh}
+use Rattle.server_table.specs.ControlDatagrams.{ControlPacket, control_place, incoming, with_fresh}
 use Rattle.server_table.specs.Courses.{Course, acted, client_changed, reported}
 use Rattle.server_table.specs.DataDatagrams.{went_to}
 use Rattle.server_table.specs.Endings.{turned}
@@ -29,16 +29,16 @@ heard_after (Ok (Err (BadKey kid))) now v session = record v { session = session
 heard_after (Ok (Err (Replayed time id))) now v session = record v { session = session }
 heard_after (Err e) now v session = record v { session = session }
 
--- the client and the key session to which the last datagram went
-abbrev pub last_after : Result Turn Refused → Cid × ℕ → Option (Cid × ℕ) → Option (Cid × ℕ)
-last_after (Ok turn) went last = Some went
-last_after (Err refused) went last = last
+-- the key session to which the last datagram went: it reached this one where it was taken
+abbrev pub last_after : Result Turn Refused → Option Place → Option Place → Option Place
+last_after (Ok turn) reached last = reached
+last_after (Err refused) reached last = last
 
 -- the course once the session has answered, before anything is told
-abbrev pub went : ℕ → ℕ → Course → Result Turn Refused → Course
-went n number c (Ok turn) = client_changed n (with_fresh c.table.moment) (record c { table = went_to n (Some number) c.table })
-went n number c (Err (BadKey kid)) = client_changed n (with_fresh c.table.moment) c
-went n number c (Err (Replayed time id)) = c
+abbrev pub went : ℕ → Option Place → Course → Result Turn Refused → Course
+went n reached c (Ok turn) = client_changed n (with_fresh c.table.moment) (record c { table = went_to reached c.table })
+went n reached c (Err (BadKey kid)) = client_changed n (with_fresh c.table.moment) c
+went n reached c (Err (Replayed time id)) = c
 
 -- what is told of the answer
 abbrev pub told : ℕ → Course → Result Turn Refused → Course
@@ -51,7 +51,7 @@ pub record HasTaken {S : Type 0} (means : S → Peer → Type 0) (before : List 
     (c : Course) (x : Client) (answer : Result Turn Refused) : Type 0 where
   pub answered : answer ≡ (control_came x.session (incoming r c x)).answer
   pub course : CourseStands means before core after
-      (went n (control_session (incoming r c x) x.session) (acted n x.address (control_came x.session (incoming r c x)) c) answer)
+      (went n (control_place (incoming r c x) x.session (control_came x.session (incoming r c x)).peer) (acted n x.address (control_came x.session (incoming r c x)) c) answer)
 
 -- what holds of the core after an answer: where the turn is over, the client's session need not go on
 abbrev pub IsSoundAfter : {S : Type 0} → (S → Type 0) → (S → ℕ) → (S → ℕ) → ServerCore S → Result Turn Refused → Type 0

@@ -1,6 +1,5 @@
 -- What opening a data packet leaves of a client.
-use Rattle.std.specs.Prelude.{ℕ, List, Option, option_map, Result, Ok, Err}
-use Rattle.vpn_base.specs.declared.names.Cid.{Cid}
+use Rattle.std.specs.Prelude.{ℕ, List, Result, Ok, Err}
 use Rattle.peer_table.specs.declared.outcomes.SessionFault.{SessionFault}
 use Rattle.peer_table.specs.Outboxes.{TellsOpened}
 use Rattle.peer_table.specs.Peer.{Outcome, Peer}
@@ -19,11 +18,3 @@ pub record Opens {S : Type 0} (means : S → Peer → Type 0) (v : ClientState S
     (result : Result ℕ SessionFault) (o : Outcome (Result (List ℕ) SessionFault)) : Type 0 where
   pub state : StateStands means v (after_opening now bytes x o.peer o.answer)
   pub told : TellsOpened result datagram o.answer
-
--- a client and a key session by their numbers
-abbrev pub by_numbers : Option (Cid × ℕ) → Option (ℕ × ℕ)
-by_numbers went = option_map (λ w. (w.0.0, w.1)) went
-
--- the key session of this number, beside its client
-abbrev pub beside : ℕ → Option ℕ → Option (ℕ × ℕ)
-beside n number = option_map (λ k. (n, k)) number

@@ -5,7 +5,6 @@ use Rattle.server_table.specs.Courses.{outs}
 use Rattle.server_table.specs.Runs.{is_refusal}
 use Rattle.server_state.specs.Core.{CourseStands}
 use Rattle.server_control.specs.Packets.{packet_of}
-use Rattle.server_control.proofs.Early.{taking_is_no_refusal}
 use Rattle.server_control.proofs.Arrived.{on_err, on_ok}
 use Rattle.server_control.proofs.arriving.find_client.Goals as goal
 
@@ -26,4 +25,4 @@ returns-in-Some-clause-lacking g c =
     (λ o. is_refusal (outs
     (server.control_at (record { from = c.args.from; bytes = bytes; lacks = lacks }) c.args.draw.now c.args.op (packet_of c.args.opened.now c.args.view.now) course o)))
     (sym (c.by_session.ensures course.table h.table) ∙ ap (λ (o : Option Cid). option_map (λ cid. cid.0) o) c.in-Some.is)
-    ∙ taking_is_no_refusal (packet_of c.args.opened.now c.args.view.now) c.in-Some.cid.0 course fresh)
+    ∙ c.what_is_done_is_no_refusal.ensures.packet (packet_of c.args.opened.now c.args.view.now) c.in-Some.cid.0 course fresh)

@@ -3,7 +3,6 @@ use Rattle.server_table.specs.ControlDatagrams as server
 use Rattle.server_control.specs.Packets.{packet_of}
 use Rattle.server_table.specs.Courses.{outs}
 use Rattle.server_table.specs.Runs.{is_refusal}
-use Rattle.server_control.proofs.Early.{admitting_is_no_refusal}
 use Rattle.server_control.proofs.Arrived.{is_admitted, is_zero, not_zero, on_err, on_ok, when_admitted, when_full, when_unwrapped}
 use Rattle.server_control.proofs.arriving.of_nobody.Goals as goal
 
@@ -43,4 +42,4 @@ returns-clause-lacking g c =
     (is_admitted g.S.ClientSession.stands before core core c.args.out.now course h.table (record { from = c.args.from; bytes = bytes; lacks = lacks }) c.args.draw.now r
     (server.begins_client c.args.op r) (◌∙◌ {a = server.begins_client c.args.op r} (sym c.begins_client.ensures.begins) c.if-not-begins_client.false) (sym c.has_room.ensures.room ∙ c.if-not-has_room.false)
     (not_zero c.args.opened.now.id c.if-opened-eq0.false))
-    ∙ admitting_is_no_refusal c.args.from bytes lacks c.args.draw.now r course fresh)
+    ∙ c.what_is_done_is_no_refusal.ensures.admission c.args.from bytes lacks c.args.draw.now r course fresh)

@@ -3,7 +3,6 @@ use Rattle.vpn_links.specs.declared.events.Kind.TheVariants.{Datagram, DeviceIn,
 use Rattle.opcode_codec.specs.Packet.{packet_of}
 use Rattle.server_table.specs.Step.{came, datagram_as}
 use Rattle.server_core.proofs.Came.{Comes, MayWant, datagram_comes, datagram_wants, device_comes, down_comes, down_wants, err_always, err_then, err_told, file_comes, file_wants, halt_comes, if_then, if_told, line_comes, ok_then, plain_comes, plain_wants, ready_comes, text_comes, text_wants, tick_comes, tick_wants, up_comes, up_wants}
-use Rattle.server_core.proofs.Early.{time_is_no_refusal}
 use Rattle.server_core.proofs.dispatch.came.Goals as goal
 
 pub returns-in-Datagram-clause-came : goal.returns-in-Datagram-clause-came
@@ -68,7 +67,7 @@ pub returns-in-Tick-clause-lacking : goal.returns-in-Tick-clause-lacking
 returns-in-Tick-clause-lacking g c =
     err_told c.tick.result c.told-in-Tick.result (MayWant g.S.ClientSession.stands c.args.core.now c.args.out.now c.args.draw.now c.args.kind.now) c.told-in-Tick.ensures
     (err_always c.tick.result
-    (tick_wants g.S.ClientSession.stands c.args.core.now c.args.out.now c.args.draw.now c.args.kind.now c.in-Tick.is (λ before course h fresh. time_is_no_refusal course fresh)))
+    (tick_wants g.S.ClientSession.stands c.args.core.now c.args.out.now c.args.draw.now c.args.kind.now c.in-Tick.is (λ before course h fresh. c.what_is_done_is_no_refusal.ensures.time course fresh)))
 
 pub returns-in-Halt-clause-came : goal.returns-in-Halt-clause-came
 returns-in-Halt-clause-came g c =

@@ -2,7 +2,6 @@ use Rattle.std.proofs.Common.{Option, option_map, sym, ap, subst, ◌∙◌}
 use Rattle.vpn_base.specs.declared.names.Cid.{Cid}
 use Rattle.server_table.specs.Engine.{down_at, engine_is_down}
 use Rattle.server_state.specs.Core.{CourseStands}
-use Rattle.server_core.proofs.Early.{down_is_no_refusal}
 use Rattle.server_core.proofs.dispatch.engine_down.Goals as goal
 
 pub returns-in-None-clause-came : goal.returns-in-None-clause-came
@@ -14,5 +13,5 @@ returns-in-None-clause-came g c before course h =
 
 pub returns-in-Err-clause-lacking : goal.returns-in-Err-clause-lacking
 returns-in-Err-clause-lacking g c before course h fresh =
-    down_is_no_refusal c.args.conn course c.in-Some.field-0.0
+    c.what_is_done_is_no_refusal.ensures.down c.args.conn course c.in-Some.field-0.0
     (sym (c.by_connection.ensures course.table h.table) ∙ ap (λ (o : Option Cid). option_map (λ cid. cid.0) o) c.in-Some.is) fresh

@@ -1,7 +1,6 @@
 use Rattle.std.proofs.Common.{false, length, refl, sym, ap, subst, ◌∙◌}
 use Rattle.std.specs.Prelude.{unwrap_or}
 use Rattle.client_table.specs.Tables.{with_value_at}
-use Rattle.peer_table.specs.KeySessions.{usable_with}
 use Rattle.server_data.proofs.Accepted.{err_opened, ok_opened}
 use Rattle.server_data.proofs.opening.open_at.Goals as goal
 
@@ -23,9 +22,8 @@ returns-in-Ok-clause-came g c before course h =
     ok_opened means before core c.args.out.now course c.args.cid.0 c.args.i c.args.from c.args.datagram.now c.open.new.datagram h
     (c.places_tell_of_clients.ensures.there core course.table c.args.cid.0 c.args.i h.table c.requires.place) v w c.value_at.ensures.value
     (with_value_at core.clients c.args.i w) (record { entries_are = c.lending_sets_the_value.ensures core.clients c.args.i w; admitted_is = refl; most_is = refl })
-    c.open.ensures.file c.data_session-number.result
-    (λ p stands. c.data_session-number.ensures p (subst (λ v. means v.session p) (sym same) stands)
-    ∙ ap (λ kid. usable_with p.timers core.moment.0 p.sessions kid) c.kid_in.ensures)
+    c.open.ensures.file c.find_session-went.result
+    (λ p stands. c.find_session-went.ensures p (subst (λ v. means v.session p) (sym same) stands))
     c.accept.new.core c.follow.new.core c.carry.new.core c.follow.new.out c.carry.new.out c.carry.result c.in-Ok.field-0 (length c.args.datagram.now) c.behind_head.result.now refl c.behind_head.ensures
     c.in-Ok.ensures.opened c.accept.ensures.accepted c.accept.ensures.turn_stays c.accept.ensures.mark_stays c.follow.ensures.moved c.carry.ensures.carried
 
@@ -39,9 +37,8 @@ returns-in-Err-clause-came g c before course h =
     err_opened means before core c.args.out.now course c.args.cid.0 c.args.i c.args.from c.args.datagram.now c.open.new.datagram h
     (c.places_tell_of_clients.ensures.there core course.table c.args.cid.0 c.args.i h.table c.requires.place) v w c.value_at.ensures.value
     (with_value_at core.clients c.args.i w) (record { entries_are = c.lending_sets_the_value.ensures core.clients c.args.i w; admitted_is = refl; most_is = refl })
-    c.open.ensures.file c.data_session-number.result
-    (λ p stands. c.data_session-number.ensures p (subst (λ v. means v.session p) (sym same) stands)
-    ∙ ap (λ kid. usable_with p.timers core.moment.0 p.sessions kid) c.kid_in.ensures)
+    c.open.ensures.file c.find_session-went.result
+    (λ p stands. c.find_session-went.ensures p (subst (λ v. means v.session p) (sym same) stands))
     c.refuse.new.core c.refuse.new.out false c.in-Err.fault c.in-Err.ensures.opened c.refuse.ensures.refused
 
 pub returns-in-Err-clause-sound : goal.returns-in-Err-clause-sound
