@@ -1,25 +1,20 @@
--- What is done of a message before the messages behind it.
-use Rattle.std.proofs.Common.{◌≡◌, ◌≤◌, ◌-◌, ℕ, List, Option, Some, None, is_some, refl, sym, ap, subst, ◌∙◌}
+-- What is done of a key exchange before the messages behind it.
+use Rattle.std.proofs.Common.{◌≡◌, ◌≤◌, ℕ, List, Option, Some, None, is_some, refl, sym, ap, subst, ◌∙◌}
 use Rattle.std.proofs.lemmas.Bool.{false≢true}
 use Rattle.vpn_base.specs.declared.names.Cid.{Cid}
-use Rattle.vpn_base.specs.declared.names.Conn.{Conn}
 use Rattle.vpn_links.specs.Actions.{Action, Contents}
-use Rattle.vpn_links.specs.declared.notes.Note.TheVariants.{Ignored}
-use Rattle.peer_table.specs.Exchange.{all_unread, next_message}
+use Rattle.peer_table.specs.Exchange.{all_unread}
 use Rattle.peer_table.specs.Peer.{Peer}
-use Rattle.server_table.specs.Courses.{Course, reported}
-use Rattle.server_table.specs.Exchange.{established_as_asked, exchange_made, messages_taken, requested}
-use Rattle.server_table.specs.Lookups.{cid, client_here}
+use Rattle.server_table.specs.Courses.{Course}
+use Rattle.server_table.specs.Exchange.{established_as_asked, exchange_made, messages_taken}
+use Rattle.server_table.specs.Lookups.{client_here}
 use Rattle.server_table.specs.Table.{Client, Table}
 use Rattle.server_state.specs.declared.state.ServerCore.{ServerCore}
 use Rattle.server_state.specs.Core.{CourseStands}
 use Rattle.server_state.specs.Places.{IsThere}
-use Rattle.server_engine.specs.declared.messages.Waiting.TheVariants as found
-use Rattle.server_engine.specs.Messages.{Sees, passed}
 use Rattle.server_establishing.specs.declared.asking.Prepared.{Prepared}
 use Rattle.server_establishing.specs.Prepared.{IsPrepared}
-use Rattle.server_answers.proofs.Stays.{MadeStays, prepared_behind}
-use Rattle.server_answers.proofs.Taken.{Fits, behind_it, empty_taken, fits_asked, fits_requested, less_empty, less_other, less_request, nobody_made, nobody_taken, nothing_taken, other_taken, passed_here, request_taken, unread_none}
+use Rattle.server_answers.proofs.Taken.{Fits, fits_asked, nobody_made}
 
 -- a client of this number that is here has its messages taken
 abbrev pub Takes : {S : Type 0} → (S → Peer → Type 0) → ServerCore S → Contents → ServerCore S → Contents → Prepared → ℕ → ℕ → Type 0
@@ -36,28 +31,13 @@ not_gone : {S : Type 0} (means : S → Peer → Type 0) (core : ServerCore S) (t
 not_gone means core t n i there none = false≢true (ap is_some (sym none ∙ there.client_there))
 
 module _ {S : Type 0} (means : S → Peer → Type 0) (before : List Action) (core next : ServerCore S) (new : Contents) (n i : ℕ) (c : Course) where
-  -- so its messages are not those of nobody
-  pub not_nobody : IsThere means core c.table n i → client_here c.table n ≡ None → CourseStands means before next new (messages_taken n c)
-  not_nobody there none = absurd (not_gone means core c.table n i there none)
-
+  -- so its exchange is not that of nobody
   pub not_nobody_made : IsThere means core c.table n i → client_here c.table n ≡ None → CourseStands means before next new (exchange_made n c)
   not_nobody_made there none = absurd (not_gone means core c.table n i there none)
 
 module _ {S : Type 0} (means : S → Peer → Type 0) (before : List Action) (core : ServerCore S) (out : Contents) (n : ℕ) (c : Course) where
-  pub nobody_left : client_here c.table n ≡ None → CourseStands means before core out c → CourseStands means before core out (messages_taken n c)
-  nobody_left none h = subst (CourseStands means before core out) (sym (nobody_taken n c none)) h
-
   pub nobody_left_made : client_here c.table n ≡ None → CourseStands means before core out c → CourseStands means before core out (exchange_made n c)
   nobody_left_made none h = subst (CourseStands means before core out) (sym (nobody_made n c none)) h
-
-  pub none_unread_left : (left : ℕ) (x : Client) → client_here c.table n ≡ Some x → all_unread x.session.sessions ≤ left → left ≡ 0 → CourseStands means before core out c
-      → CourseStands means before core out (messages_taken n c)
-  none_unread_left left x there le none h =
-      subst (CourseStands means before core out) (sym (unread_none n c x there (subst (λ k. all_unread x.session.sessions ≤ k) none le))) h
-
-  pub nothing_left : (x : Client) → client_here c.table n ≡ Some x → Sees found.Nothing (next_message x.session) → CourseStands means before core out c
-      → CourseStands means before core out (messages_taken n c)
-  nothing_left x there sees h = subst (CourseStands means before core out) (sym (nothing_taken n c x there sees)) h
 
 module _ {S : Type 0} (means : S → Peer → Type 0) (before : List Action) (core : ServerCore S) (old : Contents) (next : ServerCore S) (new : Contents) (n : ℕ) where
   by_here : (left : ℕ) (q : Prepared) (d : Course) (o : Option Client) → client_here d.table n ≡ o → Takes means core old next new q left n → TakesNone means core old next new n
@@ -72,33 +52,6 @@ module _ {S : Type 0} (means : S → Peer → Type 0) (before : List Action) (co
   all_taken left q d takes none h prepared fits = by_here left q d (client_here d.table n) refl takes none h prepared fits
 
   module _ (left : ℕ) (c : Course) (x : Client) (there : client_here c.table n ≡ Some x) (fits : all_unread x.session.sessions ≤ left) where
-    -- an empty message
-    pub behind_empty : (p : Prepared) → MadeStays → IsPrepared c n x p → Takes means core old next new p (left - 1) n → Sees found.Empty (next_message x.session)
-        → CourseStands means before core old (passed n c) → CourseStands means before next new (messages_taken n c)
-    behind_empty p stays prepared takes sees h =
-        subst (CourseStands means before next new) (sym (empty_taken n c x there sees))
-        (takes before (passed n c) (behind_it x) h (passed_here n c x there) (prepared_behind stays n c (passed n c) x p there refl prepared)
-        (less_empty n c x there left sees fits))
-
-    -- one that is reported
-    pub behind_other : (p : Prepared) → MadeStays → IsPrepared c n x p → Takes means core old next new p (left - 1) n → Sees found.Other (next_message x.session)
-        → CourseStands means before core old (reported (Ignored (cid n)) (passed n c)) → CourseStands means before next new (messages_taken n c)
-    behind_other p stays prepared takes sees h =
-        let then = reported (Ignored (cid n)) (passed n c) in
-        subst (CourseStands means before next new) (sym (other_taken n c x there sees))
-        (takes before then (behind_it x) h (passed_here n c x there) (prepared_behind stays n c then x p there refl prepared) (less_other n c x there left sees fits))
-
-    -- a request that was answered
-    pub behind_request : (conn : Conn) (q : Prepared) → Takes means core old next new q (left - 13) n → TakesNone means core old next new n
-        → Sees (found.Request conn) (next_message x.session)
-        → ((y : Client) → client_here (requested n conn (passed n c) (Some (behind_it x))).table n ≡ Some y → IsPrepared (requested n conn (passed n c) (Some (behind_it x))) n y q)
-        → CourseStands means before core old (requested n conn (passed n c) (Some (behind_it x))) → CourseStands means before next new (messages_taken n c)
-    behind_request conn q takes none sees prepared h =
-        let then = requested n conn (passed n c) (Some (behind_it x)) in
-        subst (CourseStands means before next new) (sym (request_taken n c x there conn sees))
-        (all_taken (left - 13) q then takes none h prepared
-        (fits_requested (left - 13) n conn (passed n c) (behind_it x) (passed_here n c x there) (less_request n c x there conn left sees fits)))
-
     -- a key exchange with what it asks for
     pub behind_exchange : (q : Prepared) → Takes means core old next new q left n → TakesNone means core old next new n
         → ((y : Client) → client_here (established_as_asked n c (Some x)).table n ≡ Some y → IsPrepared (established_as_asked n c (Some x)) n y q)

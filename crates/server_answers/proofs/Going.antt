@@ -49,6 +49,7 @@ use Rattle.server_answers.specs.internal.Following.{IfKeyed, IsPreparedFor, MayF
 use Rattle.server_answers.proofs.Keeping.{changed_here, some_is}
 use Rattle.server_answers.proofs.Readied.{value_is}
 use Rattle.server_answers.proofs.Stays.{MadeStays}
+use Rattle.server_answers.proofs.Unnamed.{IsUnnamed, LeadsNowhere, each_of, no_cipher, nowhere_fits, unnamed_came}
 
 -- ---- the client is changed
 
@@ -320,6 +321,14 @@ prepared_any turns.Ignored c n x p of = tt
 prepared_any turns.Named c n x p of = tt
 prepared_any (turns.Over cause) c n x p of = tt
 
+-- a client that has no keys, and makes no key exchange, needs nothing
+nothing_for : (turn : Turn) (c : Course) (n : ℕ) (x : Client) → cipher_of x.session ≡ None → LeadsNowhere turn → IsPreparedFor turn c n x Nothing
+nothing_for turns.Going c n x none leads = if_none (cipher_of x.session) (IsPrepared c n x Nothing) none
+nothing_for (turns.Over cause) c n x none leads = tt
+nothing_for turns.Ignored c n x none leads = absurd leads
+nothing_for turns.Named c n x none leads = absurd leads
+nothing_for turns.Exchange c n x none leads = absurd leads
+
 -- what an answer brings of unread text
 abbrev pub BringsLess : Type 0
 BringsLess = (kind : Kind) (now : ℕ) (p : Peer) → all_unread (engine_came kind now p).peer.sessions ≤ all_unread p.sessions + text_in kind
@@ -363,7 +372,10 @@ module _ (stays : MadeStays) (names : NamesStay) (fits : NamesFit) (less : Bring
   prepared_for : (p : Prepared) → IsReadied kind c n x p → IsPreparedFor o.answer then n y p
   prepared_for (New ahead) of = new_for ahead of.not_yet of.file of.made x.session.name refl of.name o.answer refl
   prepared_for (Again replies) of = prepared_any o.answer then n y (Again replies) (record { when = of.0.when; established = of.0.established; again = of.0.again })
-  prepared_for Nothing of = absurd of
+  prepared_for Nothing of = nothing_for o.answer then n y (no_cipher o.peer unnamed.each) unnamed.answer
+    where
+      unnamed : IsUnnamed o
+      unnamed = unnamed_came kind now x.session of.none (each_of x.session of.first of.unknown)
 
   name_known : (name : Option (List ℕ)) → x.session.name ≡ name → is_some name ≡ true → LongestFits name longest → NameFitsFor longest y.session o.answer
   name_known None named some most = absurd (false≢true some)
@@ -377,7 +389,7 @@ module _ (stays : MadeStays) (names : NamesStay) (fits : NamesFit) (less : Bring
   name_for : (p : Prepared) → IsReadied kind c n x p → LongestFits x.session.name longest → NameFitsFor longest y.session o.answer
   name_for (New ahead) of most = name_ahead ahead.name x.session.name refl of.name most
   name_for (Again replies) of most = name_known x.session.name refl of.1 most
-  name_for Nothing of most = absurd of
+  name_for Nothing of most = nowhere_fits longest y.session o.answer (unnamed_came kind now x.session of.none (each_of x.session of.first of.unknown)).answer
 
   -- all that the client needs for it
   pub follows : (p : Prepared) → IsReadied kind c n x p → all_unread x.session.sessions + text_in kind ≤ left → LongestFits x.session.name longest

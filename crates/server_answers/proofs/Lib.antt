@@ -8,5 +8,7 @@ pub mod Readied
 pub mod Kept
 pub mod Looked
 pub mod Going
-pub mod Early
 pub mod Filed
+pub mod Taking
+pub mod Unnamed
+pub mod Awaited

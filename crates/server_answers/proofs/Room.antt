@@ -1,11 +1,12 @@
 -- How much room in an outbox messages take, one after another.
-use Rattle.std.proofs.Common.{◌≡◌, ◌≤◌, ◌+◌, ◌-◌, ◌*◌, ◌/◌, ℕ, ap, ◌∙◌, arith}
+use Rattle.std.proofs.Common.{◌≡◌, ◌≤◌, ◌<◌, ◌+◌, ◌-◌, ◌*◌, ◌/◌, ℕ, ap, ◌∙◌, arith}
 use Rattle.std.proofs.lemmas.Nat.{mul-le}
 use Rattle.vpn_links.specs.Actions.{Contents}
-use Rattle.peer_table.specs.Outboxes.{HasRoom, Uses}
+use Rattle.peer_table.specs.Outboxes.{Uses}
 use Rattle.server_establishing.specs.declared.asking.Prepared.{Prepared}
 use Rattle.server_establishing.specs.Prepared.{prepared_bytes, prepared_effects}
 use Rattle.server_answers.specs.Rooms.{messages_bytes, messages_effects}
+use Rattle.server_answers.specs.internal.Taking.{Spends}
 
 -- ---- numbers
 
@@ -40,12 +41,21 @@ request_fits a b c e left many is le = omega (arith, many, is, le)
 bytes_fit : (a b c d : ℕ) → b ≡ c + d → a ≤ c → d + a ≤ b
 bytes_fit a b c d is le = omega (arith, is, le)
 
+none_of_none : (e : ℕ) → e * (0 / 13) ≡ 0
+none_of_none e = omega arith
+
+nothing_fits : (a b left : ℕ) → 1 ≤ left → a ≡ 0 → 1 + (a + 0) ≤ b + left
+nothing_fits a b left some none = omega (arith, some, none)
+
+none_fits : (a b : ℕ) → a ≡ 0 → 0 + a ≤ b
+none_fits a b none = omega (arith, none)
+
 -- ---- outboxes
 
-room_left : (old new : Contents) (e b f d : ℕ) (m n : ℕ) → HasRoom old m n → Uses old new e b → e + f ≤ m → b + d ≤ n → HasRoom new f d
-room_left old new e b f d m n room uses effects bytes = record {
-  effects_fit = omega (arith, room.effects_fit, uses.effects_left, effects);
-  bytes_fit = omega (arith, room.bytes_fit, uses.bytes_left, bytes);
+spends_by : (old new : Contents) (e b f d g h : ℕ) → Uses old new g h → g + f ≤ e → h + d ≤ b → Spends old new e b f d
+spends_by old new e b f d g h uses effects bytes = record {
+  effects_spent = omega (arith, uses.effects_left, effects);
+  bytes_spent = omega (arith, uses.bytes_left, bytes);
 }
 
 uses_both : (old mid new : Contents) (e b f d : ℕ) (m n : ℕ) → Uses old mid e b → Uses mid new f d → e + f ≤ m → b + d ≤ n → Uses old new m n
@@ -54,19 +64,32 @@ uses_both old mid new e b f d m n first last effects bytes = record {
   bytes_left = omega (arith, first.bytes_left, last.bytes_left, bytes);
 }
 
-module _ (p : Prepared) (left : ℕ) (old mid : Contents) where
+-- an outbox of which nothing was used
+uses_none : (old : Contents) → Uses old old 1 0
+uses_none old = record { effects_left = omega arith; bytes_left = omega arith }
+
+module _ (p : Prepared) (left : ℕ) (old mid : Contents) (some : 0 < left) where
+  at_least : 1 ≤ left
+  at_least = omega (arith, some)
+
+  -- no message waits
+  pub spends_nothing : Uses old mid 1 0 → Spends old mid (messages_effects p left) (messages_bytes p left) (messages_effects p 0) (messages_bytes p 0)
+  spends_nothing uses =
+      spends_by old mid (messages_effects p left) (messages_bytes p left) (messages_effects p 0) (messages_bytes p 0) 1 0 uses
+      (nothing_fits (prepared_effects p * (0 / 13)) (prepared_effects p * (left / 13)) left at_least (none_of_none (prepared_effects p)))
+      (none_fits (prepared_bytes p * (0 / 13)) (prepared_bytes p * (left / 13)) (none_of_none (prepared_bytes p)))
+
   -- a message that is no request
-  module _ (some : 1 ≤ left) (uses : Uses old mid 1 0) where
-    effects_one : 1 + messages_effects p (left - 1) ≤ messages_effects p left
-    effects_one =
-        one_fits (prepared_effects p * ((left - 1) / 13)) (prepared_effects p * (left / 13)) left some (product_less (prepared_effects p) left)
+  effects_one : 1 + messages_effects p (left - 1) ≤ messages_effects p left
+  effects_one =
+      one_fits (prepared_effects p * ((left - 1) / 13)) (prepared_effects p * (left / 13)) left at_least (product_less (prepared_effects p) left)
 
-    bytes_one : 0 + messages_bytes p (left - 1) ≤ messages_bytes p left
-    bytes_one = let less = product_less (prepared_bytes p) left in omega (arith, less)
+  bytes_one : 0 + messages_bytes p (left - 1) ≤ messages_bytes p left
+  bytes_one = let less = product_less (prepared_bytes p) left in omega (arith, less)
 
-    pub uses_one : (new : Contents) → Uses mid new (messages_effects p (left - 1)) (messages_bytes p (left - 1)) → Uses old new (messages_effects p left) (messages_bytes p left)
-    uses_one new rest =
-        uses_both old mid new 1 0 (messages_effects p (left - 1)) (messages_bytes p (left - 1)) (messages_effects p left) (messages_bytes p left) uses rest effects_one bytes_one
+  pub spends_one : Uses old mid 1 0 → Spends old mid (messages_effects p left) (messages_bytes p left) (messages_effects p (left - 1)) (messages_bytes p (left - 1))
+  spends_one uses =
+      spends_by old mid (messages_effects p left) (messages_bytes p left) (messages_effects p (left - 1)) (messages_bytes p (left - 1)) 1 0 uses effects_one bytes_one
 
   -- a request
   module _ (many : 13 ≤ left) (uses : Uses old mid 1 0) (q : Prepared) (less : (prepared_effects q ≤ prepared_effects p) × (prepared_bytes q ≤ prepared_bytes p))
@@ -89,13 +112,12 @@ module _ (p : Prepared) (left : ℕ) (old mid : Contents) where
         zero_more : (n : ℕ) → 0 + n ≤ n
         zero_more n = omega arith
 
-    pub room_request : HasRoom old (messages_effects p left) (messages_bytes p left) → HasRoom next (messages_effects q (left - 13)) (messages_bytes q (left - 13))
-    room_request room =
-        room_left old next (1 + prepared_effects p) (prepared_bytes p) (messages_effects q (left - 13)) (messages_bytes q (left - 13)) (messages_effects p left)
-        (messages_bytes p left) room both_used effects_request bytes_request
+    pub spends_request : Spends old next (messages_effects p left) (messages_bytes p left) (messages_effects q (left - 13)) (messages_bytes q (left - 13))
+    spends_request =
+        spends_by old next (messages_effects p left) (messages_bytes p left) (messages_effects q (left - 13)) (messages_bytes q (left - 13)) (1 + prepared_effects p)
+        (prepared_bytes p) both_used effects_request bytes_request
 
-    pub uses_request : (new : Contents) → Uses next new (messages_effects q (left - 13)) (messages_bytes q (left - 13))
-        → Uses old new (messages_effects p left) (messages_bytes p left)
-    uses_request new rest =
-        uses_both old next new (1 + prepared_effects p) (prepared_bytes p) (messages_effects q (left - 13)) (messages_bytes q (left - 13)) (messages_effects p left)
-        (messages_bytes p left) both_used rest effects_request bytes_request
+-- where nobody is here, nothing is used
+pub spends_no_room : (p : Prepared) (left : ℕ) (old : Contents) → 0 < left
+    → Spends old old (messages_effects p left) (messages_bytes p left) (messages_effects p 0) (messages_bytes p 0)
+spends_no_room p left old some = spends_nothing p left old old some (uses_none old)

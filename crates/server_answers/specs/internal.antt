@@ -2,3 +2,4 @@
 pub mod Ahead
 pub mod Following
 pub mod Filing
+pub mod Taking

@@ -14,7 +14,7 @@ ghost use Rattle.server_state.specs.Core.{CoreStands, IsSoundAhead, StateStands}
 ghost use Rattle.server_engine.specs.Calls.{IsNamedAt, IsReadyAt};
 ghost use Rattle.server_establishing.specs.Prepared.{IsKept};
 ghost use Rattle.server_answers.specs.Texts.{text_in};
-ghost use Rattle.server_answers.specs.internal.Ahead.{GivenAhead, IsAgain, IsMadeAs, IsReadied, IsTurnAt, LongestFits, NameAhead, StaysSame};
+ghost use Rattle.server_answers.specs.internal.Ahead.{GivesName, IsAgain, IsMadeAs, IsReadied, IsTurnAt, LongestFits, NameFound, StaysSame};
 
 use ccd_files::Ccd;
 use peer_table::ClientSession;
@@ -130,14 +130,16 @@ fn keep_name(alloc: Global, name: &[u8]) -> Result<Text, NoMemory>
     Ok(Text::of(kept))
 }
 
-// The name that an answer of the engine gives, as it is kept. It is want of memory where there is none: no client
-// without a name makes its key exchange then.
-fn name_given(alloc: Global, kind: &Kind) -> Result<Text, NoMemory>
-    ensures { IfOk result (λ name. GivenAhead kind.now name) }
+// The name that an answer of the engine gives, as it is kept, if it gives one.
+fn name_given(alloc: Global, kind: &Kind) -> Result<Option<Text>, NoMemory>
+    ensures { IfOk result (λ found. GivesName kind.now found) }
 {
     match kind {
-        Kind::EngineUp { name, .. } => keep_name(alloc, name.as_slice()),
-        _ => Err(NoMemory),
+        Kind::EngineUp { name, .. } => match keep_name(alloc, name.as_slice()) {
+            Ok(name) => Ok(Some(name)),
+            Err(NoMemory) => Err(NoMemory),
+        },
+        _ => Ok(None),
     }
 }
 
@@ -148,16 +150,20 @@ fn copy_name(alloc: Global, name: &[u8]) -> Result<Text, NoMemory>
     Text::copy(alloc, name)
 }
 
-// The name of a client behind an answer of the engine. Nobody has keys and no name.
-fn name_ahead<S: ClientSession>(alloc: Global, session: &S, kind: &Kind) -> Result<Text, NoMemory>
-    ensures { IfOk result (λ name. (p : Peer) → S.stands session.now p → NameAhead kind.now name p p.name) }
+// The name of a client behind an answer of the engine, if it has one.
+fn name_ahead<S: ClientSession>(
+    alloc: Global,
+    session: &S,
+    kind: &Kind,
+) -> Result<Option<Text>, NoMemory>
+    ensures { IfOk result (λ found. (p : Peer) → S.stands session.now p → NameFound kind.now p found) }
 {
     match session.name() {
-        Some(name) => copy_name(alloc, name),
-        None => match session.cipher() {
-            None => name_given(alloc, kind),
-            Some(_) => Err(NoMemory),
+        Some(name) => match copy_name(alloc, name) {
+            Ok(name) => Ok(Some(name)),
+            Err(NoMemory) => Err(NoMemory),
         },
+        None => name_given(alloc, kind),
     }
 }
 
@@ -200,16 +206,16 @@ fn prepare_reply<S: ClientSession>(
     }
 }
 
-// A copy of the name of the client at this place, as it is behind an answer of the engine.
+// A copy of the name of the client at this place, as it is behind an answer of the engine, if it has one.
 fn name_at<S: ClientSession>(
     core: &ServerCore<S>,
     alloc: Global,
     i: usize,
     kind: &Kind,
-) -> Result<Text, NoMemory>
+) -> Result<Option<Text>, NoMemory>
     requires at { IsTurnAt core.now i }
-    ensures { IfOk result (λ name. (t : Table) (x : Client) → CoreStands S.stands core.now t → client_here t core.now.turn.0 ≡ Some x →
-        NameAhead kind.now name x.session x.session.name) }
+    ensures { IfOk result (λ found. (t : Table) (x : Client) → CoreStands S.stands core.now t → client_here t core.now.turn.0 ≡ Some x →
+        NameFound kind.now x.session found) }
 {
     server_state::places_tell_of_clients::<S>();
     name_ahead(alloc, &core.clients.look_at(i).session, kind)
@@ -254,7 +260,7 @@ fn has_name<S: ClientSession>(core: &ServerCore<S>, i: usize) -> bool
 }
 
 /// Prepares the client at this place for what may follow an answer of the engine: to establish it, or to write the
-/// same reply again.
+/// same reply again. Nothing follows for one that has no name then.
 pub(crate) fn prepare_at<S: ClientSession>(
     core: &mut ServerCore<S>,
     alloc: Global,
@@ -277,9 +283,12 @@ pub(crate) fn prepare_at<S: ClientSession>(
         }
         return prepare_reply(core, alloc, cid);
     }
-    let name = match name_at(core, alloc, i, kind) {
-        Ok(name) => name,
+    let found = match name_at(core, alloc, i, kind) {
+        Ok(found) => found,
         Err(NoMemory) => return Err(NoMemory),
+    };
+    let Some(name) = found else {
+        return Ok(Prepared::Nothing);
     };
     let file = match file_at(core, alloc, i) {
         Ok(file) => file,

@@ -22,6 +22,7 @@ use peer_table::ClientSession;
 use server_engine::{by_connection, send_text};
 use server_establishing::give_back_held;
 use server_state::{ServerCore, a_core_ahead_is_sound};
+use server_table::what_is_done_is_no_refusal;
 use std::alloc::Global;
 use vpn_base::{Cid, Conn, Draw, NoMemory};
 use vpn_links::{Kind, Note, Outbox};
@@ -229,6 +230,7 @@ pub fn engine_answered<S: ClientSession + Drop>(
         is_refusal (outs (definitions.engine_answered draw.now conn kind.now c)) ≡ false) }
 {
     a_core_ahead_is_sound::<S>();
+    what_is_done_is_no_refusal();
     match by_connection(core, conn) {
         None => {
             core.report(Note::UnknownConn { conn }, out);

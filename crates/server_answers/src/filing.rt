@@ -22,6 +22,7 @@ use peer_table::ClientSession;
 use server_engine::{know_file, read_answer, take_file};
 use server_establishing::give_back_held;
 use server_state::{ClientFile, ServerCore, a_core_ahead_is_sound};
+use server_table::what_is_done_is_no_refusal;
 use std::alloc::Global;
 use vpn_base::{Cid, Draw, NoMemory};
 use vpn_links::{FileAnswer, Kind, Note, Outbox};
@@ -199,6 +200,7 @@ pub fn file_came<S: ClientSession + Drop>(
         is_refusal (outs (definitions.file_came draw.now id answer.now c)) ≡ false) }
 {
     a_core_ahead_is_sound::<S>();
+    what_is_done_is_no_refusal();
     if !is_waited_for(core, id) {
         core.report(Note::Unasked { cid: id }, out);
         return Ok(());

@@ -4,7 +4,6 @@ mod Asked
 mod Taken
 mod Called
 mod Exchanged
-mod Gone
 mod Ready
 mod Begun
 mod Passed

@@ -1,4 +1,4 @@
--- What is left to do of a step, behind an answer of the engine.
+-- What is left to do of a step, behind an answer of the engine or a key exchange.
 use Rattle.std.specs.Prelude.{◌≡◌, ℕ, Bool, true, false, List}
 use Rattle.vpn_base.specs.declared.names.Draw.{Draw}
 use Rattle.vpn_links.specs.Actions.{Action, Contents}
@@ -9,14 +9,11 @@ use Rattle.peer_table.specs.Exchange.{cipher_of, exchanged}
 use Rattle.peer_table.specs.Peer.{Outcome}
 use Rattle.server_table.specs.Courses.{Course, acted}
 use Rattle.server_table.specs.Endings.{turned}
-use Rattle.server_table.specs.Engine.{unread_judged}
-use Rattle.server_table.specs.Exchange.{exchange, exchange_made, messages_taken, policy_with}
-use Rattle.server_table.specs.Table.{Client, Table}
+use Rattle.server_table.specs.Exchange.{exchange, exchange_made, policy_with}
+use Rattle.server_table.specs.Table.{Client}
 use Rattle.server_state.specs.declared.state.ServerCore.{ServerCore}
 use Rattle.server_state.specs.Core.{CourseStands}
-use Rattle.server_engine.specs.declared.going_on.Rest.{Rest}
-use Rattle.server_engine.specs.declared.going_on.Rest.TheVariants as rests
-use Rattle.server_engine.specs.Files.{HasNameWithin, NameFits}
+use Rattle.server_engine.specs.Files.{NameFits}
 
 -- a core stands for how far a step has come, and what is left leads to its end
 pub record IsLeft {S : Type 0} (means : S → Peer → Type 0) (before : List Action) (core : ServerCore S) (out : Contents) (rest : Course → Course) (done : Course) : Type 0 where
@@ -24,28 +21,11 @@ pub record IsLeft {S : Type 0} (means : S → Peer → Type 0) (before : List Ac
   pub stands : CourseStands means before core out so_far
   pub leads : done ≡ rest so_far
 
--- nothing is left of the client's step, or its messages are read, or it makes its key exchange, and how much stays unread is judged
-abbrev pub Leads : {S : Type 0} → (S → Peer → Type 0) → List Action → ServerCore S → Contents → Draw → ℕ → Course → Rest → Type 0
-Leads means before core out draw n done rests.Nothing = CourseStands means before core out done
-Leads means before core out draw n done rests.Messages = IsLeft means before core out (λ c. unread_judged n (messages_taken n c)) done
-Leads means before core out draw n done rests.Exchange = IsLeft means before core out (λ c. unread_judged n (exchange draw n c)) done
-
--- where a file may be asked for after this turn, the client's name is known and has no more bytes than these
-abbrev pub HasNameFor : ℕ → Table → ℕ → Turn → Type 0
-HasNameFor longest t n turns.Named = HasNameWithin longest t n
-HasNameFor longest t n turns.Exchange = HasNameWithin longest t n
-HasNameFor longest t n turn = Unit {0}
-
--- the same for the name that a call has left
+-- where a file may be asked for after this turn, the name that a call has left is known and has no more bytes than these
 abbrev pub NameFitsFor : ℕ → Peer → Turn → Type 0
 NameFitsFor longest p turns.Named = NameFits longest p.name
 NameFitsFor longest p turns.Exchange = NameFits longest p.name
 NameFitsFor longest p turn = Unit {0}
-
--- this holds, where the client makes its key exchange
-abbrev pub IfExchange : Rest → Type 0 → Type 0
-IfExchange rests.Exchange holds = holds
-IfExchange rest holds = Unit {0}
 
 -- the client has made its key exchange, behind which more is done, or it makes none
 abbrev pub HasBegun : {S : Type 0} → (S → Peer → Type 0) → List Action → ServerCore S → Contents → Draw → ℕ → Course → Bool → Type 0

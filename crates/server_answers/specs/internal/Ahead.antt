@@ -9,6 +9,7 @@ use Rattle.client_table.specs.Tables.{entries_of}
 use Rattle.peer_table.specs.EngineAnswers.{kept_name}
 use Rattle.peer_table.specs.Exchange.{cipher_of}
 use Rattle.peer_table.specs.Peer.{Peer}
+use Rattle.peer_table.specs.Unnamed.{NameComesFirst}
 use Rattle.server_table.specs.Courses.{Course}
 use Rattle.server_table.specs.Establishing.{ccd_in}
 use Rattle.server_table.specs.Table.{Client, Table}
@@ -43,6 +44,27 @@ abbrev pub NameAhead : Kind → List ℕ → Peer → Option (List ℕ) → Type
 NameAhead kind ahead p (Some name) = name ≡ ahead
 NameAhead kind ahead p None = GivenAhead kind ahead × (cipher_of p ≡ None)
 
+-- an answer of the engine gives no name
+abbrev pub GivesNone : Kind → Type 0
+GivesNone (EngineUp conn name) = ⊥
+GivesNone kind = Unit {0}
+
+-- what an answer of the engine gives: a name, as it is kept, or none
+abbrev pub GivesName : Kind → Option (List ℕ) → Type 0
+GivesName kind (Some ahead) = GivenAhead kind ahead
+GivesName kind None = GivesNone kind
+
+-- a client has no name behind an answer of the engine: its own is not known, so that its key sessions are all in their first stage, and it is given none
+pub record IsNameless (kind : Kind) (p : Peer) : Type 0 where
+  pub unknown : p.name ≡ None
+  pub none : GivesNone kind
+  pub first : NameComesFirst p
+
+-- the name that a client has behind an answer of the engine, or that it has none
+abbrev pub NameFound : Kind → Peer → Option (List ℕ) → Type 0
+NameFound kind p (Some ahead) = NameAhead kind ahead p p.name
+NameFound kind p None = IsNameless kind p
+
 -- a name that is known has no more bytes than these, and one that may be given has at most 64
 abbrev pub LongestFits : Option (List ℕ) → ℕ → Type 0
 LongestFits None longest = 64 ≤ longest
@@ -65,8 +87,8 @@ pub record IsReadiedNew (kind : Kind) (c : Course) (n : ℕ) (x : Client) (ahead
   pub file : ccd_in x.file ≡ ahead.file
   pub made : IsMadeFor c n ahead.name ahead.file ahead
 
--- this is prepared for a client that an answer of the engine is for; one that is established has a name
+-- this is prepared for a client that an answer of the engine is for; one that is established has a name, and for one that has none nothing is
 abbrev pub IsReadied : Kind → Course → ℕ → Client → Prepared → Type 0
 IsReadied kind c n x (New ahead) = IsReadiedNew kind c n x ahead
 IsReadied kind c n x (Again replies) = IsEstablishedWith c.table x (Some replies) × (is_some x.session.name ≡ true)
-IsReadied kind c n x Nothing = ⊥
+IsReadied kind c n x Nothing = IsNameless kind x.session

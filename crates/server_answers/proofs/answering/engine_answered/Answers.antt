@@ -1,9 +1,7 @@
 use Rattle.std.proofs.Common.{Option, option_map, sym, ap, subst, ◌∙◌}
 use Rattle.vpn_base.specs.declared.names.Cid.{Cid}
 use Rattle.server_table.specs.Engine as definitions
-use Rattle.server_table.specs.Lookups.{by_connection}
 use Rattle.server_state.specs.Core.{CourseStands}
-use Rattle.server_answers.proofs.Early.{answering_is_no_refusal}
 use Rattle.server_answers.proofs.Readied.{on_err, on_ok}
 use Rattle.server_answers.proofs.answering.engine_answered.Goals as goal
 
@@ -22,9 +20,8 @@ returns-in-Some-clause-came g c =
     (sym (ap (λ (o : Option Cid). option_map (λ cid. cid.0) o) c.in-Some.is) ∙ c.by_connection.ensures course.table h.table) (came before course h))
 
 pub returns-in-Some-clause-lacking : goal.returns-in-Some-clause-lacking
-unfolding definitions.engine_answered
 returns-in-Some-clause-lacking g c =
     on_err c.client_answered.result c.client_answered.ensures.events
     (λ events before course h fresh.
-    answering_is_no_refusal c.args.draw.now c.args.conn c.args.kind.now c.in-Some.cid.0 course (by_connection course.table c.args.conn)
+    c.what_is_done_is_no_refusal.ensures.answer c.args.draw.now c.args.conn c.args.kind.now c.in-Some.cid.0 course
     (sym (c.by_connection.ensures course.table h.table) ∙ ap (λ (o : Option Cid). option_map (λ cid. cid.0) o) c.in-Some.is) fresh)

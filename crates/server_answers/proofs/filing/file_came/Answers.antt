@@ -1,6 +1,7 @@
 use Rattle.std.proofs.Common.{None, sym, subst, ◌∙◌}
+use Rattle.server_table.specs.Lookups.{client_here}
 use Rattle.server_state.specs.Core.{CourseStands}
-use Rattle.server_answers.proofs.Early.{filing_is_no_refusal, not_waited_for}
+use Rattle.server_answers.proofs.Awaited.{awaiting_of, not_waited_for}
 use Rattle.server_answers.proofs.Readied.{ahead_turned, both_err, either, on_err, on_ok, outbox_same, stays_beside, turn_begun}
 use Rattle.server_answers.proofs.filing.file_came.Goals as goal
 
@@ -70,4 +71,5 @@ pub returns-clause-lacking : goal.returns-clause-lacking
 returns-clause-lacking g c =
     on_err c.file_given.result c.file_given.ensures.stays
     (λ stays before course h fresh.
-    filing_is_no_refusal c.args.draw.now c.args.id c.args.answer.now course (sym (c.is_waited_for.ensures course.table h.table) ∙ c.if-not-is_waited_for.false) fresh)
+    let of = awaiting_of (client_here course.table c.args.id.0) (sym (c.is_waited_for.ensures course.table h.table) ∙ c.if-not-is_waited_for.false) in
+    c.what_is_done_is_no_refusal.ensures.file c.args.draw.now c.args.id c.args.answer.now course of.client of.name of.there of.file fresh)
