@@ -1,44 +1,64 @@
 -- What a replay comes to, by what its links stand for at its end.
-use Rattle.std.proofs.Common.{◌≡◌, ℕ, suc, ◌+◌, ◌≤◌, ◌<◌, Bool, true, false, List, [], ◌++◌, length, refl, ap, sym, ◌∙◌, subst, arith, inl, inr, zero, Option, Some}
+use Rattle.std.proofs.Common.{◌≡◌, ℕ, suc, ◌+◌, ◌≤◌, ◌<◌, Bool, true, false, List, [], ◌++◌, length, refl, ap, sym, ◌∙◌, subst, arith, inl, inr, zero, ◌∷◌, Option, Some}
 use Rattle.std.specs.Prelude.{◌⊎◌}
 use Rattle.std.proofs.lemmas.List.{length-map}
 use Rattle.vpn_base.specs.Answers.{Rose}
 use Rattle.vpn_base.specs.Files.{Holding}
 use Rattle.vpn_base.specs.Sink.{appended}
 use Rattle.vpn_links.specs.Actions.{Action}
-use Rattle.vpn_links.specs.Rounds.{Round}
+use Rattle.vpn_links.specs.Faults.{Asking, Giving, LinkCall}
+use Rattle.vpn_links.specs.Rounds.{Given, Round}
 use Rattle.vpn_links.specs.declared.events.Event.{Event}
 use Rattle.vpn_links.specs.declared.links.LinkFault.{LinkFault}
 use Rattle.vpn_links.specs.declared.links.LinkFault.TheVariants as faults
-use Rattle.vpn_node.specs.Running.{Ends, given_in}
+use Rattle.vpn_node.specs.Running.{Between, BrokeOff, Ends, OnlyWireLost, OnlyWiresLost, Within, capped, given_in, lost_by, lost_of, one_if}
 use Rattle.vpn_node.specs.declared.outcome.Outcome.{Outcome}
 use Rattle.vpn_node.specs.declared.outcome.Outcome.TheVariants as outcomes
 use Rattle.vpn_node.specs.declared.outcome.Ran.{Ran}
-use Rattle.replay_links.specs.Replay.{Backing, Came, Caused, IsPart, IsRefused, Replay, ReplayStands, StandsFor, Wrote, backing_of, before_cut, begun_of, came_in, replay_faults}
+use Rattle.replay_links.specs.Replay.{Backing, Came, Caused, IsPart, IsRefused, MayFail, Replay, ReplayStands, StandsFor, Wrote, backing_of, before_cut, begun_of, came_in, replay_faults}
 use Rattle.replay_links.specs.Replay as links
 use Rattle.replay_links.specs.declared.end.ReplayEnd.{ReplayEnd}
 use Rattle.replay_links.specs.declared.end.ReplayEnd.TheVariants as ends
 use Rattle.server_table.specs.Runs.{Entry, run}
 use Rattle.server_table.specs.Table.{Table}
-use Rattle.server_replay.specs.Replays.{BrokeBy, IsReplay, most_turns}
+use Rattle.server_replay.specs.Replays.{AreSpelled, BrokeBy, IsReplay, most_turns}
 use Rattle.server_replay.specs.Runs.{events_of}
-use Rattle.server_replay.specs.internal.Serving.{Counted, Served, told_as, told_run}
+use Rattle.server_replay.specs.internal.Serving.{Counted, Served, with_start}
+use Rattle.server_replay.proofs.Halts.{EndStops, TakesYet, ended_only}
+use Rattle.server_replay.proofs.Spelled.{WholeEnds, first_spelled}
 use Rattle.server_replay.proofs.Written.{transcript_same}
 
 -- ---- how it ended
 
-ended_as : (outcome : Outcome) (turns : ℕ) (outs given : List (List Action)) → Ends outcome turns outs given → Ends (told_as outcome) turns outs given
-ended_as outcomes.Stopped turns outs given is = is
-ended_as outcomes.TurnsSpent turns outs given is = is
-ended_as outcomes.Memory turns outs given is = is
-ended_as (outcomes.Fault faults.Input) turns outs given is = is
-ended_as (outcomes.Fault faults.Output) turns outs given is = is
-ended_as (outcomes.Fault faults.Schedule) turns outs given is = is
-ended_as (outcomes.Fault faults.Wire) turns outs given is = is
-ended_as (outcomes.Fault faults.Engine) turns outs given is = is
-ended_as (outcomes.Fault faults.Device) turns outs given is = is
-ended_as (outcomes.Fault faults.Console) turns outs given is = is
-ended_as (outcomes.Fault faults.Random) turns outs given is = is
+-- the links of a replay start without a fault
+broke_so : (fault : LinkFault) (turns : ℕ) (outs given : List (List Action)) → BrokeOff (with_start MayFail Asking fault) (with_start MayFail Giving fault) turns outs given →
+    BrokeOff (MayFail Asking fault) (MayFail Giving fault) turns outs given
+broke_so fault turns outs given (Between (inl may) whole onward fewer) = Between may whole onward fewer
+broke_so fault turns outs given (Between (inr never) whole onward fewer) = absurd never
+broke_so fault turns outs given (Within may n part within only most) = Within may n part within only most
+
+ended_so : (outcome : Outcome) (turns : ℕ) (outs given : List (List Action)) → Ends (with_start MayFail) outcome turns outs given → Ends MayFail outcome turns outs given
+ended_so outcomes.Stopped turns outs given is = is
+ended_so outcomes.TurnsSpent turns outs given is = is
+ended_so outcomes.Memory turns outs given is = is
+ended_so (outcomes.Fault fault) turns outs given is = broke_so fault turns outs given is
+
+never_broke : (turns : ℕ) (outs given : List (List Action)) → BrokeOff ⊥ ⊥ turns outs given → ⊥
+never_broke turns outs given (Between never whole onward fewer) = never
+never_broke turns outs given (Within never n part within only most) = never
+
+-- and lose nothing
+none_lost : (given : List Given) → OnlyWireLost (with_start MayFail) given → lost_of given ≡ 0
+none_lost [] wires = refl
+none_lost (g ∷ given) wires = let rest = none_lost given wires.1 in omega (arith, rest, by g.is_lost refl)
+  where
+    by : (b : Bool) → g.is_lost ≡ b → one_if g.is_lost ≡ 0
+    by false is = ap one_if is
+    by true is = absurd (wires.0 is).1
+
+nothing_lost : (rounds : List Round) → OnlyWiresLost (with_start MayFail) rounds → lost_by rounds ≡ 0
+nothing_lost [] wires = refl
+nothing_lost (r ∷ rounds) wires = let first = none_lost r.effects wires.0 in let rest = nothing_lost rounds wires.1 in omega (arith, first, rest)
 
 input_by : (files files_now missing : ℕ) (ended : Option ReplayEnd) → Rose (files + 0) (files_now + missing) → (0 < missing → ended ≡ Some ends.Missing) →
     (ended ≡ Some ends.Missing) ⊎ Rose files files_now
@@ -56,22 +76,28 @@ module _ {F S : Type 0} (holds : F → List ℕ → Holding) (contents : S → O
       by_cut true is w = absurd (omega (arith, w.cut.3))
 
   -- what broke it off
-  pub broke : (first last : Replay F S) (rounds : List Round) (outcome : Outcome) → first.missing ≡ 0 → first.refused ≡ 0 → ReplayStands holds contents last rounds →
+  pub broke : (first last : Replay F S) (rounds : List Round) (outcome : Outcome) (outs given : List (List Action)) → Ends (with_start MayFail) outcome most_turns outs given →
+      first.missing ≡ 0 → first.refused ≡ 0 → ReplayStands holds contents last rounds →
       Counted outcome (replay_faults files_count out_count first) (replay_faults files_count out_count last) →
-      BrokeBy (told_as outcome) last.ended (files_count first.files, files_count last.files) (out_count first.out, out_count last.out)
-  broke first last rounds outcomes.Stopped missing refused s counted = tt
-  broke first last rounds outcomes.TurnsSpent missing refused s counted = tt
-  broke first last rounds outcomes.Memory missing refused s counted = tt
-  broke first last rounds (outcomes.Fault faults.Input) missing refused s counted =
+      BrokeBy outcome last.ended (files_count first.files, files_count last.files) (out_count first.out, out_count last.out)
+  broke first last rounds outcomes.Stopped outs given ended missing refused s counted = tt
+  broke first last rounds outcomes.TurnsSpent outs given ended missing refused s counted = tt
+  broke first last rounds outcomes.Memory outs given ended missing refused s counted = tt
+  broke first last rounds (outcomes.Fault faults.Input) outs given ended missing refused s counted =
       input_by (files_count first.files) (files_count last.files) last.missing last.ended
       (subst (λ (n : ℕ). Rose (files_count first.files + n) (files_count last.files + last.missing)) missing counted) s.no_file
-  broke first last rounds (outcomes.Fault faults.Output) missing refused s counted = counted
-  broke first last rounds (outcomes.Fault faults.Schedule) missing refused s counted = s.a_line (omega (arith, refused, counted))
-  broke first last rounds (outcomes.Fault faults.Wire) missing refused s counted = tt
-  broke first last rounds (outcomes.Fault faults.Engine) missing refused s counted = tt
-  broke first last rounds (outcomes.Fault faults.Device) missing refused s counted = tt
-  broke first last rounds (outcomes.Fault faults.Console) missing refused s counted = tt
-  broke first last rounds (outcomes.Fault faults.Random) missing refused s counted = tt
+  broke first last rounds (outcomes.Fault faults.Output) outs given ended missing refused s counted = counted
+  broke first last rounds (outcomes.Fault faults.Schedule) outs given ended missing refused s counted = s.a_line (omega (arith, refused, counted))
+  broke first last rounds (outcomes.Fault faults.Wire) outs given ended missing refused s counted =
+      never_broke most_turns outs given (ended_so (outcomes.Fault faults.Wire) most_turns outs given ended)
+  broke first last rounds (outcomes.Fault faults.Engine) outs given ended missing refused s counted =
+      never_broke most_turns outs given (ended_so (outcomes.Fault faults.Engine) most_turns outs given ended)
+  broke first last rounds (outcomes.Fault faults.Device) outs given ended missing refused s counted =
+      never_broke most_turns outs given (ended_so (outcomes.Fault faults.Device) most_turns outs given ended)
+  broke first last rounds (outcomes.Fault faults.Console) outs given ended missing refused s counted =
+      never_broke most_turns outs given (ended_so (outcomes.Fault faults.Console) most_turns outs given ended)
+  broke first last rounds (outcomes.Fault faults.Random) outs given ended missing refused s counted =
+      never_broke most_turns outs given (ended_so (outcomes.Fault faults.Random) most_turns outs given ended)
 
   -- no line was cut before, so where one is now the output failed
   pub uncut : (first last : Replay F S) → ReplayStands holds contents first [] → ((k : LinkFault) → replay_faults files_count out_count first k ≤ replay_faults files_count out_count last k) →
@@ -81,16 +107,18 @@ module _ {F S : Type 0} (holds : F → List ℕ → Holding) (contents : S → O
       (subst (λ (b : Bool). before_cut b (out_count first.out) ≤ before_cut last.is_cut (out_count last.out)) (begun_uncut first s) (falls faults.Wire))
 
   -- the whole
-  pub replayed : (t : Table) (first last : Replay F S) (name : List ℕ) (holding : Holding) (before : Option (List ℕ)) (ran : Ran) →
-      ReplayStands holds contents first [] → backing_of holds contents first ≡ record { name = name; holding = holding; begun = before } →
+  pub replayed : (t : Table) (first last : Replay F S) (name : List ℕ) (held : List ℕ → Holding) (before : Option (List ℕ)) (ran : Ran) →
+      ReplayStands holds contents first [] → backing_of holds contents first ≡ record { name = name; holds = held; begun = before } →
       backing_of holds contents last ≡ backing_of holds contents first →
-      Served t (ReplayStands holds contents first) (ReplayStands holds contents last) ran →
-      IsReplay t holding before (contents last.out) last.ended last.is_cut (told_run ran)
-  replayed t first last name holding before ran begun backing same r =
+      (r : Served (with_start MayFail) t (ReplayStands holds contents first) (ReplayStands holds contents last) ran) →
+      WholeEnds → EndStops → TakesYet t (length r.entries) →
+      IsReplay t (held name) before (contents last.out) last.ended last.is_cut ran
+  replayed t first last name held before ran begun backing same r whole law takes =
       let s = r.told [] begun in
       let is = same ∙ backing in
-      let held : holds last.files last.name ≡ holding = ap (λ (b : Backing). b.holding) is in
+      let same_held : holds last.files last.name ≡ held name = ap (λ (b : Backing). b.holds b.name) is in
       let wrote : begun_of (contents last.out) last.written ≡ before = ap (λ (b : Backing). b.begun) is in
+      let over = ended_only (with_start MayFail) ran.outcome most_turns (run t r.entries) (given_in r.rounds) r.ended in
       record {
         entries = r.entries;
         given = given_in r.rounds;
@@ -101,39 +129,41 @@ module _ {F S : Type 0} (holds : F → List ℕ → Holding) (contents : S → O
           text = last.text;
           left = last.left;
           fault = last.fault;
-          came = subst (λ (h : Holding). Came h last.is_open last.text last.left last.fault (events_of r.entries)) held
-              (subst (λ (l : List Event). Came (holds last.files last.name) last.is_open last.text last.left last.fault l) r.came s.events);
-          cause = subst (λ (h : Holding). Caused h last.is_open last.left last.fault last.ended) held s.cause;
+          spelled = subst (λ (h : Holding). AreSpelled h last.is_open last.text last.left last.fault (events_of r.entries)) same_held
+              (first_spelled whole law t r.entries (holds last.files last.name) last.is_open last.text last.left last.fault takes r.may over.0
+              (subst (λ (l : List Event). Came (holds last.files last.name) last.is_open last.text last.left last.fault l) r.came s.events));
+          cause = subst (λ (h : Holding). Caused h last.is_open last.left last.fault last.ended) same_held s.cause;
         };
-        outcome = ended_as ran.outcome most_turns (run t r.entries) (given_in r.rounds) r.ended;
+        outcome = ended_so ran.outcome most_turns (run t r.entries) (given_in r.rounds) r.ended;
         cut = subst (λ (n : ℕ). IsPart last.is_cut n s.wrote.part) (sym (length-map r.rounds (λ (q : Round). q.event)) ∙ (ap length r.came ∙ length-map r.entries (λ (e : Entry). e.0))) s.wrote.cut;
         written = s.wrote.holds ∙ ap (λ (c : Option (List ℕ)). appended c (links.transcript r.rounds ++ s.wrote.part)) wrote
             ∙ ap (λ (l : List ℕ). appended before (l ++ s.wrote.part)) (transcript_same r.rounds);
         events = r.events;
-        lost = refl;
+        lost = r.lost ∙ ap capped (nothing_lost r.rounds r.wires);
         refused = r.refused;
         whole = r.whole;
       }
 
   -- ---- the same of what was taken apart
 
-  pub replayed_apart : (t : Table) (first last : Replay F S) (name : List ℕ) (holding : Holding) (before : Option (List ℕ)) (ran : Ran)
-      (out : S) (ended : Option ReplayEnd) (is_cut : Bool) (told : Ran) → out ≡ last.out → ended ≡ last.ended → is_cut ≡ last.is_cut → told ≡ told_run ran →
-      ReplayStands holds contents first [] → backing_of holds contents first ≡ record { name = name; holding = holding; begun = before } →
+  pub replayed_apart : (t : Table) (first last : Replay F S) (name : List ℕ) (held : List ℕ → Holding) (before : Option (List ℕ)) (ran : Ran)
+      (out : S) (ended : Option ReplayEnd) (is_cut : Bool) (told : Ran) → out ≡ last.out → ended ≡ last.ended → is_cut ≡ last.is_cut → told ≡ ran →
+      ReplayStands holds contents first [] → backing_of holds contents first ≡ record { name = name; holds = held; begun = before } →
       backing_of holds contents last ≡ backing_of holds contents first →
-      Served t (ReplayStands holds contents first) (ReplayStands holds contents last) ran →
-      IsReplay t holding before (contents out) ended is_cut told
-  replayed_apart t first last name holding before ran out ended is_cut told is_out is_ended is_so is_told begun backing same r =
-      subst (λ (x : S). IsReplay t holding before (contents x) ended is_cut told) (sym is_out)
-      (subst (λ (x : Option ReplayEnd). IsReplay t holding before (contents last.out) x is_cut told) (sym is_ended)
-      (subst (λ (x : Bool). IsReplay t holding before (contents last.out) last.ended x told) (sym is_so)
-      (subst (λ (x : Ran). IsReplay t holding before (contents last.out) last.ended last.is_cut x) (sym is_told)
-      (replayed t first last name holding before ran begun backing same r))))
+      (r : Served (with_start MayFail) t (ReplayStands holds contents first) (ReplayStands holds contents last) ran) →
+      WholeEnds → EndStops → TakesYet t (length r.entries) →
+      IsReplay t (held name) before (contents out) ended is_cut told
+  replayed_apart t first last name held before ran out ended is_cut told is_out is_ended is_so is_told begun backing same r whole law takes =
+      subst (λ (x : S). IsReplay t (held name) before (contents x) ended is_cut told) (sym is_out)
+      (subst (λ (x : Option ReplayEnd). IsReplay t (held name) before (contents last.out) x is_cut told) (sym is_ended)
+      (subst (λ (x : Bool). IsReplay t (held name) before (contents last.out) last.ended x told) (sym is_so)
+      (subst (λ (x : Ran). IsReplay t (held name) before (contents last.out) last.ended last.is_cut x) (sym is_told)
+      (replayed t first last name held before ran begun backing same r whole law takes))))
 
   pub broke_apart : (t : Table) (first last : Replay F S) (ran : Ran) (files files_now : F) (out out_now : S) (ended : Option ReplayEnd) (told : Ran) →
-      files_now ≡ last.files → out_now ≡ last.out → ended ≡ last.ended → told ≡ told_run ran →
+      files_now ≡ last.files → out_now ≡ last.out → ended ≡ last.ended → told ≡ ran →
       first.files ≡ files → first.out ≡ out → first.missing ≡ 0 → first.refused ≡ 0 → ReplayStands holds contents first [] →
-      Served t (ReplayStands holds contents first) (ReplayStands holds contents last) ran →
+      Served (with_start MayFail) t (ReplayStands holds contents first) (ReplayStands holds contents last) ran →
       Counted ran.outcome (replay_faults files_count out_count first) (replay_faults files_count out_count last) →
       BrokeBy told.outcome ended (files_count files, files_count files_now) (out_count out, out_count out_now)
   broke_apart t first last ran files files_now out out_now ended told is_files is_out is_ended is_told had_files had_out missing refused begun r counted =
@@ -141,9 +171,9 @@ module _ {F S : Type 0} (holds : F → List ℕ → Holding) (contents : S → O
       (subst (λ (x : S). BrokeBy told.outcome ended (files_count files, files_count last.files) (out_count out, out_count x)) (sym is_out)
       (subst (λ (x : Option ReplayEnd). BrokeBy told.outcome x (files_count files, files_count last.files) (out_count out, out_count last.out)) (sym is_ended)
       (subst (λ (x : Ran). BrokeBy x.outcome last.ended (files_count files, files_count last.files) (out_count out, out_count last.out)) (sym is_told)
-      (subst (λ (x : F). BrokeBy (told_as ran.outcome) last.ended (files_count x, files_count last.files) (out_count out, out_count last.out)) had_files
-      (subst (λ (x : S). BrokeBy (told_as ran.outcome) last.ended (files_count first.files, files_count last.files) (out_count x, out_count last.out)) had_out
-      (broke first last r.rounds ran.outcome missing refused (r.told [] begun) counted))))))
+      (subst (λ (x : F). BrokeBy ran.outcome last.ended (files_count x, files_count last.files) (out_count out, out_count last.out)) had_files
+      (subst (λ (x : S). BrokeBy ran.outcome last.ended (files_count first.files, files_count last.files) (out_count x, out_count last.out)) had_out
+      (broke first last r.rounds ran.outcome (run t r.entries) (given_in r.rounds) r.ended missing refused (r.told [] begun) counted))))))
 
   pub uncut_apart : (first last : Replay F S) (out out_now : S) (is_cut : Bool) → out_now ≡ last.out → is_cut ≡ last.is_cut → first.out ≡ out → ReplayStands holds contents first [] →
       ((k : LinkFault) → replay_faults files_count out_count first k ≤ replay_faults files_count out_count last k) →

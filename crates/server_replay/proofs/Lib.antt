@@ -1,4 +1,6 @@
 mod Runs
 mod Served
 mod Written
+mod Halts
+mod Spelled
 mod Ends

@@ -1,5 +1,5 @@
 -- What a replay of the server comes to.
-use Rattle.std.specs.Prelude.{◌≡◌, ℕ, ◌^◌, ◌⊎◌, Bool, List, ◌++◌, length, Option, Some}
+use Rattle.std.specs.Prelude.{◌≡◌, ℕ, ◌^◌, ◌⊎◌, Bool, true, false, List, [], ◌++◌, length, Option, Some}
 use Rattle.vpn_base.specs.Answers.{Rose}
 use Rattle.vpn_base.specs.Files.{Holding}
 use Rattle.vpn_base.specs.Sink.{appended}
@@ -10,7 +10,9 @@ use Rattle.vpn_node.specs.Running.{Ends, capped}
 use Rattle.vpn_node.specs.declared.outcome.Outcome.{Outcome}
 use Rattle.vpn_node.specs.declared.outcome.Outcome.TheVariants as outcomes
 use Rattle.vpn_node.specs.declared.outcome.Ran.{Ran}
-use Rattle.replay_links.specs.Replay.{Came, Caused, IsPart, IsRefused}
+use Rattle.replay_links.specs.Fronts.{IsFrontOf}
+use Rattle.replay_links.specs.Replay.{Caused, IsPart, IsRefused, MayFail}
+use Rattle.replay_links.specs.Schedule.{spells}
 use Rattle.replay_links.specs.declared.end.ReplayEnd.{ReplayEnd}
 use Rattle.replay_links.specs.declared.end.ReplayEnd.TheVariants as ends
 use Rattle.replay_links.specs.declared.reading.LineFault.{LineFault}
@@ -23,13 +25,18 @@ use Rattle.server_replay.specs.Transcript.{transcript}
 abbrev pub most_turns : ℕ
 most_turns = 2 ^ 48
 
--- events came from a schedule: it was read or not, and spells these events, with those left and the fault behind them; and why no further one came, if one was asked for in vain
+-- these events are the first of those that a schedule spells, with these left and this fault behind them; none, where it was not read
+abbrev pub AreSpelled : Holding → Bool → List ℕ → List Event → Option LineFault → List Event → Type 0
+AreSpelled holding false text left fault events = events ≡ []
+AreSpelled holding true text left fault events = IsFrontOf holding text × ((spells text).events ≡ events ++ left) × ((spells text).fault ≡ fault)
+
+-- events came from a schedule, and why no further one came, if one was asked for in vain
 pub record CameFrom (holding : Holding) (events : List Event) (ended : Option ReplayEnd) : Type 0 where
   pub is_read : Bool
   pub text : List ℕ
   pub left : List Event
   pub fault : Option LineFault
-  pub came : Came holding is_read text left fault events
+  pub spelled : AreSpelled holding is_read text left fault events
   pub cause : Caused holding is_read left fault ended
 
 -- a replay over a schedule, and what the output held before and after it: one list of events, with what lacked at each, of which all that is told is what the run of the definitions does from this table on; all effects of that run, or those up to where it broke off, were given, and are the transcript; behind it there may stand a front of a line that the output cut
@@ -39,7 +46,7 @@ pub record IsReplay (t : Table) (holding : Holding) (before now : Option (List �
   pub part : List ℕ
   pub may : MayRun t entries
   pub schedule : CameFrom holding (events_of entries) ended
-  pub outcome : Ends ran.outcome most_turns (run t entries) given
+  pub outcome : Ends MayFail ran.outcome most_turns (run t entries) given
   pub cut : IsPart is_cut (length entries) part
   pub written : now ≡ appended before (transcript given ++ part)
   pub events : ran.events ≡ length entries

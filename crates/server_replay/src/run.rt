@@ -1,22 +1,23 @@
 //! A replay of the server.
 
-ghost use Rattle.std.specs.Prelude.{◌≡◌, ◌≤◌, true};
+ghost use Rattle.std.specs.Prelude.{◌≡◌, ◌≤◌, true, ℕ, List};
 ghost use Rattle.ovpn_config.specs.Bounds.{IsBounded};
 ghost use Rattle.vpn_base.specs.Answers.{Rose};
 ghost use Rattle.vpn_base.specs.declared.names.Role.TheVariants as roles;
 ghost use Rattle.server_table.specs.Table.{table_begun};
 ghost use Rattle.server_replay.specs.Replays.{BrokeBy, IsReplay};
-ghost use Rattle.server_replay.specs.internal.Serving.{told_as, told_run};
 
 use crate::serve::serve;
 use ovpn_config::Settings;
 use peer_session::PeerSession;
-use replay_links::{ReplayEnd, ReplayLinks, a_cut_is_a_failure};
+use replay_links::{
+    ReplayEnd, ReplayLinks, a_cut_is_a_failure, a_whole_schedule_ends_the_program,
+};
+use server_table::only_the_end_stops;
 use std::alloc::Global;
 use tls_crypt::{StaticKey, Wrapper};
 use vpn_base::{Files, Sink, Text};
-use vpn_links::LinkFault;
-use vpn_node::{Outcome, Ran};
+use vpn_node::Ran;
 
 /// What a replay came to, with the files and the output that it was given.
 #[derive(Drop)]
@@ -33,39 +34,11 @@ pub struct Replayed<F, S> {
     pub ran: Ran,
 }
 
-// The links of a replay answer only faults of the schedule, of its file and of the output. Any other would be
-// told as want of memory.
-fn told_as(outcome: Outcome) -> Outcome
-    ensures { result ≡ told_as outcome }
-{
-    match outcome {
-        Outcome::Fault(LinkFault::Input) => outcome,
-        Outcome::Fault(LinkFault::Output) => outcome,
-        Outcome::Fault(LinkFault::Schedule) => outcome,
-        Outcome::Fault(_) => Outcome::Memory,
-        Outcome::Stopped => outcome,
-        Outcome::TurnsSpent => outcome,
-        Outcome::Memory => outcome,
-    }
-}
-
-// A run, as it is told of a replay: each datagram has its line, so none is lost.
-fn told_run(ran: Ran) -> Ran
-    ensures { result ≡ told_run ran }
-{
-    Ran {
-        outcome: told_as(ran.outcome),
-        events: ran.events,
-        lost: 0,
-        refused: ran.refused,
-    }
-}
-
 // What links of a replay came to, at the end of a run.
 fn taken_apart<F: Files, S: Sink>(links: ReplayLinks<F, S>, ran: Ran) -> Replayed<F, S>
     ensures parts { (result.files ≡ links.files) × (result.out ≡ links.out) }
     ensures end { (result.ended ≡ links.ended) × (result.is_cut ≡ links.is_cut) }
-    ensures ran { result.ran ≡ told_run ran }
+    ensures ran { result.ran ≡ ran }
 {
     let ended = links.ended();
     let is_cut = links.is_cut();
@@ -75,7 +48,7 @@ fn taken_apart<F: Files, S: Sink>(links: ReplayLinks<F, S>, ran: Ran) -> Replaye
         out,
         ended,
         is_cut,
-        ran: told_run(ran),
+        ran,
     }
 }
 
@@ -95,10 +68,12 @@ pub fn replay<F: Files, S: Sink>(
     ensures run { IsReplay (table_begun settings key.0) (F.holds files schedule) (S.contents out) (S.contents result.out) result.ended result.is_cut result.ran }
     ensures broke { BrokeBy result.ran.outcome result.ended (F.faults files, F.faults result.files) (S.faults out, S.faults result.out) }
     ensures cut { result.is_cut ≡ true → Rose (S.faults out) (S.faults result.out) }
-    ensures kept { F.holds result.files schedule ≡ F.holds files schedule }
+    ensures kept { (name : List ℕ) → F.holds result.files name ≡ F.holds files name }
     ensures out { S.faults out ≤ S.faults result.out }
 {
     a_cut_is_a_failure();
+    a_whole_schedule_ends_the_program();
+    only_the_end_stops();
     let links = ReplayLinks::new(alloc, files, schedule, out);
     let (links, ran) = serve::<PeerSession<Wrapper>, ReplayLinks<F, S>>(
         alloc, settings, key, links,

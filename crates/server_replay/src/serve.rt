@@ -4,11 +4,12 @@ ghost use Rattle.std.specs.Prelude.{◌≡◌, ℕ, ◌≤◌, ◌^◌, [], List
 ghost use Rattle.ovpn_config.specs.Bounds.{IsBounded};
 ghost use Rattle.vpn_base.specs.Answers.{IfWhy, Rose};
 ghost use Rattle.vpn_base.specs.declared.names.Role.TheVariants as roles;
+ghost use Rattle.vpn_links.specs.Faults.{Starting};
 ghost use Rattle.vpn_links.specs.Rounds.{Round};
 ghost use Rattle.vpn_links.specs.declared.links.LinkFault.{LinkFault};
 ghost use Rattle.vpn_node.specs.Running.{Ends, RunOver};
 ghost use Rattle.server_table.specs.Table.{Table, table_begun};
-ghost use Rattle.server_replay.specs.internal.Serving.{Counted, Served};
+ghost use Rattle.server_replay.specs.internal.Serving.{Counted, Served, with_start};
 
 use ovpn_config::Settings;
 use peer_table::ClientSession;
@@ -39,8 +40,10 @@ fn make_plan(alloc: Global) -> Result<Plan, NoMemory> {
     })
 }
 
-fn outcome_of(fault: Or<LinkFault>) -> Outcome
-    ensures ended { Ends result (2 ^ 48) [] [] }
+// What a run comes to whose start was refused.
+fn outcome_of<L: Links>(fault: Or<LinkFault>) -> Outcome
+    requires may { IfWhy fault (L.may_fail Starting) }
+    ensures ended { Ends (with_start L.may_fail) result (2 ^ 48) [] [] }
     ensures counted { (before now : LinkFault → ℕ) → IfWhy fault (λ k. Rose (before k) (now k)) → Counted result before now }
 {
     match fault {
@@ -64,7 +67,7 @@ fn never_ran(outcome: Outcome) -> Ran
 // Runs a core over links that were not started yet, and hands both back.
 fn run_over<M: Machine, L: Links>(alloc: Global, machine: M, links: L, plan: &Plan) -> (M, L, Ran)
     ensures run { (t : M.Table) → M.stands machine t →
-        RunOver M.next M.effects M.may_lack (M.stands result.0) (L.stands links) (L.stands result.1) t (2 ^ 48) result.2 }
+        RunOver (with_start L.may_fail) M.next M.effects M.may_lack (M.stands result.0) (L.stands links) (L.stands result.1) t (2 ^ 48) result.2 }
     ensures failed { Counted result.2.outcome (L.faults links) (L.faults result.1) }
     ensures never_falls { (k : LinkFault) → L.faults links k ≤ L.faults result.1 k }
     ensures origin { L.origin_of result.1 ≡ L.origin_of links }
@@ -77,14 +80,14 @@ fn run_over<M: Machine, L: Links>(alloc: Global, machine: M, links: L, plan: &Pl
         }
         Err((node, fault)) => {
             let (machine, links) = node.parts();
-            (machine, links, never_ran(outcome_of(fault)))
+            (machine, links, never_ran(outcome_of::<L>(fault)))
         }
     }
 }
 
 // What a run comes to that finds no memory for its server.
 fn never_served<L: Links>(links: L) -> (L, Ran)
-    ensures run { (t : Table) → Served t (L.stands links) (L.stands result.0) result.1 }
+    ensures run { (t : Table) → Served (with_start L.may_fail) t (L.stands links) (L.stands result.0) result.1 }
     ensures failed { Counted result.1.outcome (L.faults links) (L.faults result.0) }
     ensures never_falls { (k : LinkFault) → L.faults links k ≤ L.faults result.0 k }
     ensures origin { L.origin_of result.0 ≡ L.origin_of links }
@@ -99,7 +102,7 @@ fn serve_by<C: EventCore + Drop, L: Links>(
     links: L,
     plan: &Plan,
 ) -> (L, Ran)
-    ensures run { (t : Table) → C.stands server t → Served t (L.stands links) (L.stands result.0) result.1 }
+    ensures run { (t : Table) → C.stands server t → Served (with_start L.may_fail) t (L.stands links) (L.stands result.0) result.1 }
     ensures failed { Counted result.1.outcome (L.faults links) (L.faults result.0) }
     ensures never_falls { (k : LinkFault) → L.faults links k ≤ L.faults result.0 k }
     ensures origin { L.origin_of result.0 ≡ L.origin_of links }
@@ -117,7 +120,7 @@ pub(crate) fn serve<S: ClientSession + Drop, L: Links>(
 ) -> (L, Ran)
     requires bounded { IsBounded settings }
     requires server { settings.role ≡ roles.Server }
-    ensures run { Served (table_begun settings key.0) (L.stands links) (L.stands result.0) result.1 }
+    ensures run { Served (with_start L.may_fail) (table_begun settings key.0) (L.stands links) (L.stands result.0) result.1 }
     ensures failed { Counted result.1.outcome (L.faults links) (L.faults result.0) }
     ensures never_falls { (k : LinkFault) → L.faults links k ≤ L.faults result.0 k }
     ensures origin { L.origin_of result.0 ≡ L.origin_of links }

@@ -1,9 +1,9 @@
 -- The server over an outside.
-use Rattle.std.specs.Prelude.{◌≡◌, ℕ, List, ◌++◌, length}
+use Rattle.std.specs.Prelude.{◌≡◌, ◌⊎◌, ℕ, List, ◌++◌, length}
 use Rattle.vpn_base.specs.Answers.{Rose}
+use Rattle.vpn_links.specs.Faults.{Asking, LinkCall, Starting}
 use Rattle.vpn_links.specs.Rounds.{Round}
 use Rattle.vpn_links.specs.declared.links.LinkFault.{LinkFault}
-use Rattle.vpn_links.specs.declared.links.LinkFault.TheVariants as faults
 use Rattle.vpn_node.specs.Running.{Ends, OnlyWiresLost, came_in, capped, given_in, lost_by}
 use Rattle.vpn_node.specs.declared.outcome.Outcome.{Outcome}
 use Rattle.vpn_node.specs.declared.outcome.Outcome.TheVariants as outcomes
@@ -13,15 +13,21 @@ use Rattle.server_table.specs.Table.{Table}
 use Rattle.server_replay.specs.Replays.{most_turns}
 use Rattle.server_replay.specs.Runs.{LackNothing, events_of, left_out_in}
 
--- what a run came to from a table on: its events with what lacked, and the rounds that the outside got beyond those that it had
-pub record Served (t : Table) (Told_before Told : List Round → Type 0) (ran : Ran) : Type 0 where
+-- the faults that come of an outside which is started and then run: a refused start ends the run before its first event
+abbrev pub with_start : (LinkCall → LinkFault → Type 0) → LinkCall → LinkFault → Type 0
+with_start may_fail Asking fault = may_fail Asking fault ⊎ may_fail Starting fault
+with_start may_fail call fault = may_fail call fault
+
+-- what a run came to from a table on, over an outside whose calls may answer these faults: its events with what lacked, and the rounds that the
+-- outside got beyond those that it had
+pub record Served (may_fail : LinkCall → LinkFault → Type 0) (t : Table) (Told_before Told : List Round → Type 0) (ran : Ran) : Type 0 where
   pub entries : List Entry
   pub rounds : List Round
   pub may : MayRun t entries
   pub told : (before : List Round) → Told_before before → Told (before ++ rounds)
   pub came : came_in rounds ≡ events_of entries
-  pub wires : OnlyWiresLost rounds
-  pub ended : Ends ran.outcome most_turns (run t entries) (given_in rounds)
+  pub wires : OnlyWiresLost may_fail rounds
+  pub ended : Ends may_fail ran.outcome most_turns (run t entries) (given_in rounds)
   pub events : ran.events ≡ length entries
   pub lost : ran.lost ≡ capped (lost_by rounds)
   pub refused : ran.refused ≡ capped (left_out_in t entries)
@@ -31,15 +37,3 @@ pub record Served (t : Table) (Told_before Told : List Round → Type 0) (ran : 
 abbrev pub Counted : Outcome → (LinkFault → ℕ) → (LinkFault → ℕ) → Type 0
 Counted (outcomes.Fault fault) before now = Rose (before fault) (now fault)
 Counted _ before now = Unit {0}
-
--- the outcome of a replay: its links answer no other fault than these three
-abbrev pub told_as : Outcome → Outcome
-told_as (outcomes.Fault faults.Input) = outcomes.Fault faults.Input
-told_as (outcomes.Fault faults.Output) = outcomes.Fault faults.Output
-told_as (outcomes.Fault faults.Schedule) = outcomes.Fault faults.Schedule
-told_as (outcomes.Fault fault) = outcomes.Memory
-told_as outcome = outcome
-
--- a run, as it is told of a replay: each datagram has its line, so none is lost
-abbrev pub told_run : Ran → Ran
-told_run ran = record { outcome = told_as ran.outcome; events = ran.events; lost = 0; refused = ran.refused }

@@ -1,6 +1,10 @@
-use Rattle.std.proofs.Common.{◌≤◌, sym, subst}
+use Rattle.std.proofs.Common.{◌≤◌, refl, sym, subst}
 use Rattle.vpn_links.specs.declared.links.LinkFault.TheVariants as faults
 use Rattle.server_table.specs.Table.{table_begun}
+use Rattle.vpn_node.specs.Running.{given_in}
+use Rattle.replay_links.specs.Replay.{MayFail}
+use Rattle.server_replay.specs.internal.Serving.{with_start}
+use Rattle.server_replay.proofs.Halts.{takes_all}
 use Rattle.server_replay.proofs.Ends.{broke_apart, replayed_apart, uncut_apart}
 use Rattle.server_replay.proofs.run.replay.Goals as goal
 
@@ -9,9 +13,11 @@ returns-clause-run g c =
     let p = c.taken_apart.ensures in
     let s = c.serve-links.ensures in
     replayed_apart g.F.Files.holds g.S.Sink.contents g.F.Files.faults g.S.Sink.faults (table_begun c.args.settings c.args.key.0) c.new-links.result c.serve-links.result.0
-    c.args.schedule (g.F.Files.holds c.args.files c.args.schedule) (g.S.Sink.contents c.args.out) c.serve-links.result.1
+    c.args.schedule (g.F.Files.holds c.args.files) (g.S.Sink.contents c.args.out) c.serve-links.result.1
     c.taken_apart.result.out c.taken_apart.result.ended c.taken_apart.result.is_cut c.taken_apart.result.ran p.parts.1 p.end.0 p.end.1 p.ran
-    c.new-links.ensures.stands c.new-links.ensures.backing s.origin s.run
+    c.new-links.ensures.stands c.new-links.ensures.backing s.origin s.run c.a_whole_schedule_ends_the_program.ensures
+    (record { told = c.only_the_end_stops.ensures.told; only = c.only_the_end_stops.ensures.only; counted = c.only_the_end_stops.ensures.counted })
+    (takes_all (with_start MayFail) (table_begun c.args.settings c.args.key.0) s.run.entries c.serve-links.result.1.outcome (given_in s.run.rounds) refl refl s.run.ended)
 
 pub returns-clause-broke : goal.returns-clause-broke
 returns-clause-broke g c =
