@@ -19,6 +19,9 @@ use Rattle.vpn_top.proofs.Runs.{file_of}
 pub told_line : (name : List ℕ) (r : Refusal) (faults : ℕ × ℕ) (before after : Option (List ℕ)) (line : List ℕ) → after ≡ appended before line → line ≡ refusal_line name r →
     Told name (Some r) faults before after
 told_line name refusals.Usage faults before after line wrote is = wrote ∙ ap (appended before) is
+told_line name refusals.NotServer faults before after line wrote is = wrote ∙ ap (appended before) is
+told_line name (refusals.Schedule number kind) faults before after line wrote is = wrote ∙ ap (appended before) is
+told_line name refusals.TurnsSpent faults before after line wrote is = wrote ∙ ap (appended before) is
 told_line name (refusals.Line fault) faults before after line wrote is = wrote ∙ ap (appended before) is
 told_line name (refusals.Config number kind) faults before after line wrote is = wrote ∙ ap (appended before) is
 told_line name (refusals.Key fault) faults before after line wrote is = wrote ∙ ap (appended before) is
@@ -38,6 +41,9 @@ printed_part h before after fault p = record {
 
 part_of_end : (r : Refusal) (h : Holding) (before after : Option (List ℕ)) (counts : Counts) → Ended (Some r) h before after counts → PrintedPart h before after
 part_of_end refusals.Usage h before after counts end = absurd end
+part_of_end refusals.NotServer h before after counts end = absurd end
+part_of_end (refusals.Schedule number kind) h before after counts end = absurd end
+part_of_end refusals.TurnsSpent h before after counts end = absurd end
 part_of_end (refusals.Line fault) h before after counts end = printed_part h before after (Some (fault.line, fault.kind)) end
 part_of_end (refusals.Config number kind) h before after counts end = absurd end
 part_of_end (refusals.Key fault) h before after counts end = absurd end
@@ -51,6 +57,9 @@ counts_of run = record { files_before = run.files.0; files_after = run.files.1; 
 
 ran_route : (r : Refusal) (h : Holding) (run : Run) → Ended (Some r) h run.before run.after (counts_of run) → RanRoute (Some r) h run
 ran_route refusals.Usage h run end = end
+ran_route refusals.NotServer h run end = end
+ran_route (refusals.Schedule number kind) h run end = end
+ran_route refusals.TurnsSpent h run end = end
 ran_route (refusals.Line fault) h run end = end
 ran_route (refusals.Config number kind) h run end = end
 ran_route (refusals.Key fault) h run end = end

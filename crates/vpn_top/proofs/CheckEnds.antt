@@ -22,7 +22,7 @@ abbrev IsGood : {A E : Type 0} → Result A E → Type 0
 IsGood (Ok a) = Unit {0}
 IsGood (Err e) = ⊥
 
-not_both : {A E : Type 0} (a : A) (e : E) → Ok a ≡ Err e → ⊥
+pub not_both : {A E : Type 0} (a : A) (e : E) → Ok a ≡ Err e → ⊥
 not_both {A} {E} a e same = subst (λ (r : Result A E). IsGood r) same tt
 
 abbrev ok_or : {A E : Type 0} → A → Result A E → A
@@ -35,21 +35,21 @@ told_bytes Untold told read is front = absurd is
 told_bytes Absent told read is front = absurd is
 told_bytes (Held held) told read is front = front ∙ sym is
 
-told_key : (holds : List ℕ → Holding) (place : KeyPlace) (told read : List ℕ) → IsToldKey holds place told → IsKeyText holds place read → read ≡ told
+pub told_key : (holds : List ℕ → Holding) (place : KeyPlace) (told read : List ℕ) → IsToldKey holds place told → IsKeyText holds place read → read ≡ told
 told_key holds (Named name) told read is text = told_bytes (holds name) told read is text
 told_key holds (Inline block) told read is text = text ∙ sym is
 
-configured_same : (h : Holding) (s t : Settings) → IsConfigured h s → Configured h t → t ≡ s
+pub configured_same : (h : Holding) (s t : Settings) → IsConfigured h s → Configured h t → t ≡ s
 configured_same Untold s t is c = absurd is
 configured_same Absent s t is c = absurd is
 configured_same (Held held) s t is c = ap (ok_or s) (sym c.accepted ∙ ap settings c.whole ∙ is)
 
-not_misconfigured : (h : Holding) (s : Settings) (fault : ConfigFault) → IsConfigured h s → Misconfigured h fault → ⊥
+pub not_misconfigured : (h : Holding) (s : Settings) (fault : ConfigFault) → IsConfigured h s → Misconfigured h fault → ⊥
 not_misconfigured Untold s fault is m = is
 not_misconfigured Absent s fault is m = is
 not_misconfigured (Held held) s fault is m = not_both s fault (sym is ∙ ap settings (sym m.whole) ∙ m.refused)
 
-not_missing : (h : Holding) (s : Settings) → IsConfigured h s → IsMissing h → ⊥
+pub not_missing : (h : Holding) (s : Settings) → IsConfigured h s → IsMissing h → ⊥
 not_missing Untold s is missing = is
 not_missing Absent s is missing = is
 not_missing (Held held) s is missing = missing
@@ -60,7 +60,7 @@ told_not_missing Absent bytes is missing = is
 told_not_missing (Held held) bytes is missing = missing
 
 -- the key's file is there
-key_there : (holds : List ℕ → Holding) (place : KeyPlace) (file bytes : List ℕ) → place ≡ Named file → IsToldKey holds place bytes → IsMissing (holds file) → ⊥
+pub key_there : (holds : List ℕ → Holding) (place : KeyPlace) (file bytes : List ℕ) → place ≡ Named file → IsToldKey holds place bytes → IsMissing (holds file) → ⊥
 key_there holds place file bytes named is missing = told_not_missing (holds file) bytes (subst (λ (p : KeyPlace). IsToldKey holds p bytes) named is) missing
 
 -- with a static key, `check` ends well, or by a fault of the outside or want of memory
@@ -68,6 +68,9 @@ pub checked_end : (holds : List ℕ → Holding) (name subject : List ℕ) (s : 
     → (exit_status r ≡ 0) ⊎ ((exit_status r ≡ 3) × Rose run.files.0 run.files.1) ⊎ IsCutOff (exit_status r) run.out run.err
 checked_end holds name subject s None run ran is keyed = inl refl
 checked_end holds name subject s (Some refusals.Usage) run ran is keyed = absurd ran
+checked_end holds name subject s (Some refusals.NotServer) run ran is keyed = absurd ran
+checked_end holds name subject s (Some (refusals.Schedule number kind)) run ran is keyed = absurd ran
+checked_end holds name subject s (Some refusals.TurnsSpent) run ran is keyed = absurd ran
 checked_end holds name subject s (Some (refusals.Line fault)) run ran is keyed = absurd ran
 checked_end holds name subject s (Some (refusals.Config number kind)) run ran is keyed = absurd (not_misconfigured (holds name) s _ is ran.0)
 checked_end holds name subject s (Some (refusals.Key fault)) run ran is keyed =
@@ -87,6 +90,9 @@ miskeyed_end holds name subject s fault None run ran is bad =
     let keyed = subst (λ (t : Settings). Keyed holds t.key) (configured_same (holds name) s ran.s is ran.configured) ran.keyed in
     absurd (not_both keyed.key fault (sym keyed.accepted ∙ ap static_key (told_key holds s.key bad.bytes keyed.bytes bad.told keyed.text) ∙ bad.refused))
 miskeyed_end holds name subject s fault (Some refusals.Usage) run ran is bad = absurd ran
+miskeyed_end holds name subject s fault (Some refusals.NotServer) run ran is bad = absurd ran
+miskeyed_end holds name subject s fault (Some (refusals.Schedule number kind)) run ran is bad = absurd ran
+miskeyed_end holds name subject s fault (Some refusals.TurnsSpent) run ran is bad = absurd ran
 miskeyed_end holds name subject s fault (Some (refusals.Line other)) run ran is bad = absurd ran
 miskeyed_end holds name subject s fault (Some (refusals.Config number kind)) run ran is bad = inl refl
 miskeyed_end holds name subject s fault (Some (refusals.Key other)) run ran is bad = inl refl
@@ -101,7 +107,7 @@ miskeyed_end holds name subject s fault (Some refusals.NoMemory) run ran is bad 
 no_front : (h : Holding) (bytes : List ℕ) → h ≡ Absent → IsFrontOf 65536 h bytes → ⊥
 no_front h bytes absent front = subst (λ (x : Holding). IsFrontOf 65536 x bytes) absent front
 
-no_key_text : (holds : List ℕ → Holding) (place : KeyPlace) (file bytes : List ℕ) → place ≡ Named file → holds file ≡ Absent → IsKeyText holds place bytes → ⊥
+pub no_key_text : (holds : List ℕ → Holding) (place : KeyPlace) (file bytes : List ℕ) → place ≡ Named file → holds file ≡ Absent → IsKeyText holds place bytes → ⊥
 no_key_text holds place file bytes named absent text = no_front (holds file) bytes absent (subst (λ (p : KeyPlace). IsKeyText holds p bytes) named text)
 
 -- where the file of the static key is absent, it is named as missing
@@ -111,6 +117,9 @@ keyless_end holds name subject file s None run ran is named absent =
     let keyed = subst (λ (t : Settings). Keyed holds t.key) (configured_same (holds name) s ran.s is ran.configured) ran.keyed in
     absurd (no_key_text holds s.key file keyed.bytes named absent keyed.text)
 keyless_end holds name subject file s (Some refusals.Usage) run ran is named absent = absurd ran
+keyless_end holds name subject file s (Some refusals.NotServer) run ran is named absent = absurd ran
+keyless_end holds name subject file s (Some (refusals.Schedule number kind)) run ran is named absent = absurd ran
+keyless_end holds name subject file s (Some refusals.TurnsSpent) run ran is named absent = absurd ran
 keyless_end holds name subject file s (Some (refusals.Line fault)) run ran is named absent = absurd ran
 keyless_end holds name subject file s (Some (refusals.Config number kind)) run ran is named absent = absurd (not_misconfigured (holds name) s _ is ran.0)
 keyless_end holds name subject file s (Some (refusals.Key fault)) run ran is named absent =

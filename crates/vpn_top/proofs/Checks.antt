@@ -13,8 +13,9 @@ use Rattle.ovpn_config.specs.declared.settings.KeyPlace.{KeyPlace}
 use Rattle.ovpn_config.specs.declared.settings.KeyPlace.TheVariants.{Named, Inline}
 use Rattle.ovpn_config.specs.Canonical.{canonical}
 use Rattle.ovpn_config.specs.Reading.{settings}
-use Rattle.vpn_top.specs.Configuration.{Configured, IsFrontOf, IsKeyText, Keyed, Misconfigured}
-use Rattle.vpn_top.specs.internal.Refused.{ConfigEnded, HasKey, IsGone, KeyEnded, KeyFileEnded, KeyedBy, LacksKey, Printing, gone_refusal}
+use Rattle.tls_crypt.specs.StaticKey.{static_key}
+use Rattle.vpn_top.specs.Configuration.{Configured, HasKey, IsFrontOf, IsKeyText, Keyed, Misconfigured}
+use Rattle.vpn_top.specs.internal.Refused.{ConfigEnded, HoldsKey, IsGone, KeyEnded, KeyFileEnded, LacksKey, Printing, gone_refusal}
 use Rattle.vpn_top.specs.declared.refusal.Refusal.{Refusal}
 use Rattle.vpn_top.specs.declared.refusal.Refusal.TheVariants as refusals
 use Rattle.vpn_top.specs.Check.{CheckedAtMost, RanCheck}
@@ -23,6 +24,9 @@ use Rattle.vpn_top.specs.Written.{Run}
 -- whatever it was refused for, a front of the text was written at most
 at_most : (r : Refusal) (holds : List ℕ → Holding) (name subject : List ℕ) (run : Run) → RanCheck holds name (Some r) subject run → CheckedAtMost holds name run
 at_most refusals.Usage holds name subject run ran = absurd ran
+at_most refusals.NotServer holds name subject run ran = absurd ran
+at_most (refusals.Schedule number kind) holds name subject run ran = absurd ran
+at_most refusals.TurnsSpent holds name subject run ran = absurd ran
 at_most (refusals.Line fault) holds name subject run ran = absurd ran
 at_most (refusals.Config number kind) holds name subject run ran = inl ran.1
 at_most (refusals.Key fault) holds name subject run ran = inl ran.1
@@ -82,13 +86,16 @@ key_file_judged holds name files text r subject front lacks =
     subst (λ (x : Refusal). KeyFileEnded holds name files x subject) (sym lacks.is) (record { bytes = text; text = front; refused = lacks.refused })
 
 -- the static key is that of the file of this name
-pub named_keyed : (holds : List ℕ → Holding) (place : KeyPlace) (name : List ℕ) → place ≡ Named name → KeyedBy (holds name) → Keyed holds place
-named_keyed holds place name is keyed =
-    record { bytes = keyed.bytes; text = subst (λ (p : KeyPlace). IsKeyText holds p keyed.bytes) (sym is) keyed.text; key = keyed.key; accepted = keyed.accepted }
+pub named_keyed : (holds : List ℕ → Holding) (place : KeyPlace) (name key : List ℕ) → place ≡ Named name → HoldsKey (holds name) key → HasKey holds place key
+named_keyed holds place name key is keyed =
+    record { bytes = keyed.bytes; text = subst (λ (p : KeyPlace). IsKeyText holds p keyed.bytes) (sym is) keyed.text; accepted = keyed.accepted }
 
 pub named_ended : (holds : List ℕ → Holding) (place : KeyPlace) (name : List ℕ) (files : ℕ × ℕ) (r : Refusal) (subject : List ℕ) → place ≡ Named name
     → KeyFileEnded holds name files r subject → KeyEnded holds place files r subject
 named_ended holds place name files refusals.Usage subject is ended = absurd ended
+named_ended holds place name files refusals.NotServer subject is ended = absurd ended
+named_ended holds place name files (refusals.Schedule number kind) subject is ended = absurd ended
+named_ended holds place name files refusals.TurnsSpent subject is ended = absurd ended
 named_ended holds place name files (refusals.Line fault) subject is ended = absurd ended
 named_ended holds place name files (refusals.Config number kind) subject is ended = absurd ended
 named_ended holds place name files (refusals.Key fault) subject is ended =
@@ -101,9 +108,13 @@ named_ended holds place name files refusals.Output subject is ended = absurd end
 named_ended holds place name files refusals.NoMemory subject is ended = tt
 
 -- the static key is that of a block
-pub block_keyed : (holds : List ℕ → Holding) (place : KeyPlace) (block text : List ℕ) → place ≡ Inline block → text ≡ take 65536 block → HasKey text → Keyed holds place
-block_keyed holds place block text is part has =
-    record { bytes = text; text = subst (λ (p : KeyPlace). IsKeyText holds p text) (sym is) part; key = has.key; accepted = has.accepted }
+pub block_keyed : (holds : List ℕ → Holding) (place : KeyPlace) (block text key : List ℕ) → place ≡ Inline block → text ≡ take 65536 block → static_key text ≡ Ok key → HasKey holds place key
+block_keyed holds place block text key is part read =
+    record { bytes = text; text = subst (λ (p : KeyPlace). IsKeyText holds p text) (sym is) part; accepted = read }
+
+-- there is one
+pub keyed_by : (holds : List ℕ → Holding) (place : KeyPlace) (key : List ℕ) → HasKey holds place key → Keyed holds place
+keyed_by holds place key has = record { bytes = has.bytes; text = has.text; key = key; accepted = has.accepted }
 
 pub block_ended : (holds : List ℕ → Holding) (place : KeyPlace) (block text : List ℕ) (files : ℕ × ℕ) (r : Refusal) (subject : List ℕ) → place ≡ Inline block → text ≡ take 65536 block
     → LacksKey text r → KeyEnded holds place files r subject
@@ -114,6 +125,9 @@ block_ended holds place block text files r subject is part lacks =
 -- `check` ends where the configuration is refused
 pub check_config_ended : (holds : List ℕ → Holding) (name subject : List ℕ) (r : Refusal) (run : Run) → run.after ≡ run.before → ConfigEnded holds name run.files r subject → RanCheck holds name (Some r) subject run
 check_config_ended holds name subject refusals.Usage run same ended = absurd ended
+check_config_ended holds name subject refusals.NotServer run same ended = absurd ended
+check_config_ended holds name subject (refusals.Schedule number kind) run same ended = absurd ended
+check_config_ended holds name subject refusals.TurnsSpent run same ended = absurd ended
 check_config_ended holds name subject (refusals.Line fault) run same ended = absurd ended
 check_config_ended holds name subject (refusals.Config number kind) run same ended = (ended, same)
 check_config_ended holds name subject (refusals.Key fault) run same ended = absurd ended
@@ -128,6 +142,9 @@ check_config_ended holds name subject refusals.NoMemory run same ended = inl sam
 pub check_key_ended : (holds : List ℕ → Holding) (name subject : List ℕ) (s : Settings) (r : Refusal) (run : Run) → run.after ≡ run.before → Configured (holds name) s → KeyEnded holds s.key run.files r subject
     → RanCheck holds name (Some r) subject run
 check_key_ended holds name subject s refusals.Usage run same configured ended = absurd ended
+check_key_ended holds name subject s refusals.NotServer run same configured ended = absurd ended
+check_key_ended holds name subject s (refusals.Schedule number kind) run same configured ended = absurd ended
+check_key_ended holds name subject s refusals.TurnsSpent run same configured ended = absurd ended
 check_key_ended holds name subject s (refusals.Line fault) run same configured ended = absurd ended
 check_key_ended holds name subject s (refusals.Config number kind) run same configured ended = absurd ended
 check_key_ended holds name subject s (refusals.Key fault) run same configured ended = (record { s = s; configured = configured; miskeyed = ended }, same)
@@ -143,6 +160,9 @@ pub check_printed : (holds : List ℕ → Holding) (name subject : List ℕ) (s 
     → Printing (canonical s) run.before run.after run.out r → RanCheck holds name r subject run
 check_printed holds name subject s None run configured keyed printed = record { s = s; configured = configured; keyed = keyed; written = printed }
 check_printed holds name subject s (Some refusals.Usage) run configured keyed printed = absurd printed
+check_printed holds name subject s (Some refusals.NotServer) run configured keyed printed = absurd printed
+check_printed holds name subject s (Some (refusals.Schedule number kind)) run configured keyed printed = absurd printed
+check_printed holds name subject s (Some refusals.TurnsSpent) run configured keyed printed = absurd printed
 check_printed holds name subject s (Some (refusals.Line fault)) run configured keyed printed = absurd printed
 check_printed holds name subject s (Some (refusals.Config number kind)) run configured keyed printed = absurd printed
 check_printed holds name subject s (Some (refusals.Key fault)) run configured keyed printed = absurd printed

@@ -17,6 +17,9 @@ pub ended_since : (r : Option Refusal) (h : Holding) (before after : Option (Lis
     Ended r h before after (record { files_before = files_earlier; files_after = files_after; out_before = out_earlier; out_after = out_after })
 ended_since None h before after fe fb fa oe ob oa files out end = end
 ended_since (Some refusals.Usage) h before after fe fb fa oe ob oa files out end = end
+ended_since (Some refusals.NotServer) h before after fe fb fa oe ob oa files out end = end
+ended_since (Some (refusals.Schedule number kind)) h before after fe fb fa oe ob oa files out end = end
+ended_since (Some refusals.TurnsSpent) h before after fe fb fa oe ob oa files out end = end
 ended_since (Some (refusals.Line fault)) h before after fe fb fa oe ob oa files out end = end
 ended_since (Some (refusals.Config number kind)) h before after fe fb fa oe ob oa files out end = end
 ended_since (Some (refusals.Key fault)) h before after fe fb fa oe ob oa files out end = end

@@ -5,3 +5,5 @@ pub mod Answers
 mod Fronts
 mod Checks
 mod CheckEnds
+mod Replays
+mod ReplayEnds

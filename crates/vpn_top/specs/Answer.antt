@@ -8,8 +8,9 @@ use Rattle.vpn_top.specs.declared.refusal.Refusal.TheVariants as refusals
 use Rattle.vpn_top.specs.Messages.{refusal_line, status_of}
 use Rattle.vpn_top.specs.Partly.{AppendedPart}
 use Rattle.vpn_top.specs.Written.{Printed, PrintedPart, Run}
-use Rattle.vpn_top.specs.Words.{Command, Route, Check}
+use Rattle.vpn_top.specs.Words.{Command, Route, Check, Replay}
 use Rattle.vpn_top.specs.Check.{RanCheck}
+use Rattle.vpn_top.specs.Replay.{RanReplay}
 
 -- the exit status: 0 where everything was done
 abbrev pub exit_status : Option Refusal → ℕ
@@ -30,6 +31,9 @@ RanRoute (Some refusals.Usage) holding run = ⊥
 RanRoute (Some (refusals.Line fault)) holding run = Printed holding run.before run.after (Some (fault.line, fault.kind))
 RanRoute (Some (refusals.Config line kind)) holding run = ⊥
 RanRoute (Some (refusals.Key fault)) holding run = ⊥
+RanRoute (Some refusals.NotServer) holding run = ⊥
+RanRoute (Some (refusals.Schedule line kind)) holding run = ⊥
+RanRoute (Some refusals.TurnsSpent) holding run = ⊥
 RanRoute (Some refusals.Missing) holding run = IsMissing holding × PrintedPart holding run.before run.after
 RanRoute (Some refusals.Unreadable) holding run = Rose run.files.0 run.files.1 × (¬ (holding ≡ Absent)) × PrintedPart holding run.before run.after
 RanRoute (Some refusals.Output) holding run = (Rose run.out.0 run.out.1 ⊎ Rose run.err.0 run.err.1) × PrintedPart holding run.before run.after
@@ -40,6 +44,7 @@ abbrev pub Ran : Option Command → (List ℕ → Holding) → Option Refusal �
 Ran None holds refusal subject run = RanNothing refusal run
 Ran (Some (Route name)) holds refusal subject run = (subject ≡ name) × RanRoute refusal (holds name) run
 Ran (Some (Check name)) holds refusal subject run = RanCheck holds name refusal subject run
+Ran (Some (Replay config schedule)) holds refusal subject run = RanReplay holds config schedule refusal subject run
 
 -- a write to the error output failed, and a front of a refusal's line was written there
 abbrev pub IsHalfTold : List ℕ → ℕ × ℕ → Option (List ℕ) → Option (List ℕ) → Type 0

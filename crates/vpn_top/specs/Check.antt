@@ -44,6 +44,9 @@ RanCheck holds name (Some (refusals.Line fault)) subject run = ⊥
 RanCheck holds name (Some (refusals.Config line kind)) subject run =
     Misconfigured (holds name) (record { line = line; kind = kind; word = subject }) × (run.after ≡ run.before)
 RanCheck holds name (Some (refusals.Key fault)) subject run = IsBadKey (holds name) holds fault × (run.after ≡ run.before)
+RanCheck holds name (Some refusals.NotServer) subject run = ⊥
+RanCheck holds name (Some (refusals.Schedule line kind)) subject run = ⊥
+RanCheck holds name (Some refusals.TurnsSpent) subject run = ⊥
 RanCheck holds name (Some refusals.Missing) subject run = IsWanted holds name subject × IsMissing (holds subject) × (run.after ≡ run.before)
 RanCheck holds name (Some refusals.Unreadable) subject run =
     IsWanted holds name subject × (¬ (holds subject ≡ Absent)) × Rose run.files.0 run.files.1 × (run.after ≡ run.before)

@@ -33,7 +33,13 @@ abbrev pub IsKeyText : (List ℕ → Holding) → KeyPlace → List ℕ → Type
 IsKeyText holds (Named name) bytes = IsFrontOf 65536 (holds name) bytes
 IsKeyText holds (Inline block) bytes = bytes ≡ take 65536 block
 
--- the static key
+-- this is the static key
+pub record HasKey (holds : List ℕ → Holding) (place : KeyPlace) (key : List ℕ) : Type 0 where
+  pub bytes : List ℕ
+  pub text : IsKeyText holds place bytes
+  pub accepted : static_key bytes ≡ Ok key
+
+-- there is one
 pub record Keyed (holds : List ℕ → Holding) (place : KeyPlace) : Type 0 where
   pub bytes : List ℕ
   pub text : IsKeyText holds place bytes

@@ -4,5 +4,6 @@ pub mod Partly
 pub mod Written
 pub mod Configuration
 pub mod Check
+pub mod Replay
 pub mod Answer
 pub mod internal

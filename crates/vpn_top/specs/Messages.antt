@@ -10,7 +10,7 @@ use Rattle.tls_crypt.specs.declared.static_key.KeyKind.TheVariants as key_kinds
 use Rattle.vpn_top.specs.declared.refusal.Refusal.{Refusal}
 use Rattle.vpn_top.specs.declared.refusal.Refusal.TheVariants as refusals
 
--- the kind of a faulty line of a route file
+-- the kind of a faulty line of a route file or of a schedule
 abbrev pub kind_text : TextKind → List ℕ
 kind_text kinds.Header = codes "header"
 kind_text kinds.Words = codes "words"
@@ -51,6 +51,9 @@ refusal_text subject refusals.Usage = codes "usage: vpn route|check|replay|serve
 refusal_text subject (refusals.Line fault) = codes "line " ++ decimal fault.line ++ codes ": " ++ kind_text fault.kind
 refusal_text subject (refusals.Config line kind) = codes "line " ++ decimal line ++ codes ": " ++ config_kind_text kind ++ word_text subject
 refusal_text subject (refusals.Key fault) = codes "key line " ++ decimal fault.line ++ codes ": " ++ key_kind_text fault.kind
+refusal_text subject refusals.NotServer = codes "not a server file"
+refusal_text subject (refusals.Schedule line kind) = codes "line " ++ decimal line ++ codes ": " ++ kind_text kind
+refusal_text subject refusals.TurnsSpent = codes "turns spent"
 refusal_text subject refusals.Missing = codes "missing " ++ subject
 refusal_text subject refusals.Unreadable = codes "unreadable " ++ subject
 refusal_text subject refusals.Output = codes "output"
@@ -66,6 +69,9 @@ status_of refusals.Usage = 1
 status_of (refusals.Line fault) = 2
 status_of (refusals.Config line kind) = 2
 status_of (refusals.Key fault) = 2
+status_of refusals.NotServer = 2
+status_of (refusals.Schedule line kind) = 5
+status_of refusals.TurnsSpent = 7
 status_of refusals.Missing = 3
 status_of refusals.Unreadable = 3
 status_of refusals.Output = 6

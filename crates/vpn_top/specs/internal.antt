@@ -4,3 +4,4 @@ pub mod Going
 pub mod Ends
 pub mod Refused
 pub mod Told
+pub mod Replaying

@@ -3,7 +3,9 @@
 
 mod check;
 mod front;
+mod loading;
 mod refusal;
+mod replay;
 mod route;
 mod top;
 mod writing;

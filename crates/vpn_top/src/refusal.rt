@@ -26,6 +26,17 @@ pub enum Refusal {
     },
     /// The text of the static key is faulty.
     Key(KeyFault),
+    /// The configuration is a client's.
+    NotServer,
+    /// A line of the schedule is faulty, or its end is missing.
+    Schedule {
+        /// The line, from 1, or 0 where a file with no line has no end.
+        line: u64,
+        /// What is wrong.
+        kind: TextKind,
+    },
+    /// The server took as many events as it may, and was not stopped.
+    TurnsSpent,
     /// There is no file of that name.
     Missing,
     /// The file could not be read.
@@ -45,9 +56,11 @@ impl Refusal {
     {
         match self {
             Refusal::Usage => 1,
-            Refusal::Line(_) | Refusal::Config { .. } | Refusal::Key(_) => 2,
+            Refusal::Line(_) | Refusal::Config { .. } | Refusal::Key(_) | Refusal::NotServer => 2,
             Refusal::Missing | Refusal::Unreadable => 3,
+            Refusal::Schedule { .. } => 5,
             Refusal::Output => 6,
+            Refusal::TurnsSpent => 7,
             Refusal::NoMemory => 8,
         }
     }
@@ -151,6 +164,14 @@ impl Refusal {
                 add(line, b": ")?;
                 add(line, Refusal::key_kind_name(fault.kind))?;
             }
+            Refusal::NotServer => add(line, b"not a server file")?,
+            Refusal::Schedule { line: number, kind } => {
+                add(line, b"line ")?;
+                add_number(line, number)?;
+                add(line, b": ")?;
+                add(line, Refusal::kind_name(kind))?;
+            }
+            Refusal::TurnsSpent => add(line, b"turns spent")?,
             Refusal::Missing => {
                 add(line, b"missing ")?;
                 add(line, subject)?;

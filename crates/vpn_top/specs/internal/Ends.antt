@@ -26,6 +26,9 @@ Ended (Some refusals.Usage) holding before after counts = ⊥
 Ended (Some (refusals.Line fault)) holding before after counts = Printed holding before after (Some (fault.line, fault.kind))
 Ended (Some (refusals.Config line kind)) holding before after counts = ⊥
 Ended (Some (refusals.Key fault)) holding before after counts = ⊥
+Ended (Some refusals.NotServer) holding before after counts = ⊥
+Ended (Some (refusals.Schedule line kind)) holding before after counts = ⊥
+Ended (Some refusals.TurnsSpent) holding before after counts = ⊥
 Ended (Some refusals.Missing) holding before after counts = IsMissing holding × PrintedPart holding before after
 Ended (Some refusals.Unreadable) holding before after counts =
     Rose counts.files_before counts.files_after × (¬ (holding ≡ Absent)) × PrintedPart holding before after

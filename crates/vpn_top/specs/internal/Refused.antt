@@ -8,7 +8,7 @@ use Rattle.tls_crypt.specs.declared.static_key.KeyFault.{KeyFault}
 use Rattle.tls_crypt.specs.StaticKey.{static_key}
 use Rattle.ovpn_config.specs.declared.settings.KeyPlace.{KeyPlace}
 use Rattle.ovpn_config.specs.declared.settings.KeyPlace.TheVariants.{Named}
-use Rattle.vpn_top.specs.declared.check.Refused.{Refused}
+use Rattle.vpn_top.specs.declared.loading.Refused.{Refused}
 use Rattle.vpn_top.specs.declared.refusal.Refusal.{Refusal}
 use Rattle.vpn_top.specs.declared.refusal.Refusal.TheVariants as refusals
 use Rattle.vpn_base.specs.Sink.{appended}
@@ -52,22 +52,16 @@ abbrev pub gone_refusal : FileFault → Refusal
 gone_refusal faults.Missing = refusals.Missing
 gone_refusal faults.Failed = refusals.Unreadable
 
--- a text holds a static key
-pub record HasKey (text : List ℕ) : Type 0 where
-  pub key : List ℕ
-  pub accepted : static_key text ≡ Ok key
-
 -- a text is refused with its fault
 pub record LacksKey (text : List ℕ) (refusal : Refusal) : Type 0 where
   pub fault : KeyFault
   pub is : refusal ≡ refusals.Key fault
   pub refused : static_key text ≡ Err fault
 
--- the front of a file that counts holds a static key
-pub record KeyedBy (holding : Holding) : Type 0 where
+-- the front of a file that counts holds this static key
+pub record HoldsKey (holding : Holding) (key : List ℕ) : Type 0 where
   pub bytes : List ℕ
   pub text : IsFrontOf 65536 holding bytes
-  pub key : List ℕ
   pub accepted : static_key bytes ≡ Ok key
 
 -- the front of a file that counts has this fault of a static key

@@ -1,5 +1,5 @@
 use Rattle.vpn_top.proofs.Checks.{config_gone, configured_by, misconfigured_by}
-use Rattle.vpn_top.proofs.check.load_config_in.Goals as goal
+use Rattle.vpn_top.proofs.loading.load_config_in.Goals as goal
 
 pub returns-in-Err-clause-err : goal.returns-in-Err-clause-err
 returns-in-Err-clause-err g c =
