@@ -19,6 +19,7 @@ mod Retired
 mod RetiredCalls
 mod RetiredExchange
 mod RetiredTicks
+mod NameFirst
 mod Found
 mod Exchanged
 mod Exchanging
@@ -30,4 +31,3 @@ mod Taking
 mod Beginning
 mod Placing
 mod Ticking
-mod Courses

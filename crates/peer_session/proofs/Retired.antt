@@ -5,7 +5,7 @@ use Rattle.std.proofs.lemmas.Bool.Decides.{nat_tests}
 use Rattle.std.proofs.lemmas.Option.{none-some}
 use Rattle.std.specs.Prelude.{not, slice_get}
 use Rattle.vpn_base.specs.declared.names.Timers.{Timers}
-use Rattle.peer_table.specs.KeySessions.{Session, began_before, closed, has_keys, in_transition, is_open, newest_usable, retiring, session_at}
+use Rattle.peer_table.specs.KeySessions.{Named, Opening, Session, began_before, closed, has_keys, in_transition, is_keyed, is_open, newest_usable, retiring, session_at}
 use Rattle.peer_table.specs.Peer.{Peer}
 use Rattle.peer_table.specs.Places.{changed_at}
 use Rattle.peer_session.specs.Standing.{RetiredBy, UsableAreOpen}
@@ -14,9 +14,16 @@ use Rattle.peer_session.proofs.Usable.{retiring_keyed}
 
 -- ---- facts on the sessions of a client
 
--- what is said of a client by its timers and its sessions alone
-abbrev pub OfPeer : (Timers → List Session → Type 0) → Peer → Type 0
-OfPeer P p = P p.timers p.sessions
+-- what is said of a client by its timers, its name and its sessions alone
+abbrev pub Facts : Type 1
+Facts = Timers → Option (List ℕ) → List Session → Type 0
+
+abbrev pub OfPeer : Facts → Peer → Type 0
+OfPeer P p = P p.timers p.name p.sessions
+
+-- and whatever its name
+abbrev pub AnyName : (Timers → List Session → Type 0) → Facts
+AnyName P timers name ss = P timers ss
 
 -- the one before the last with keys can no longer be used at this moment
 abbrev pub IsOver : ℕ → Timers → List Session → Type 0
@@ -31,18 +38,37 @@ pub record Keeps (f : Session → Session) (s : Session) : Type 0 where
   pub keys : KeepsKeys f s
   pub is_open : (f s).is_open ≡ s.is_open
 
--- a change that keeps these leaves it so, and so does a session more that has no keys
-pub record Stays (P : Timers → List Session → Type 0) : Type 0 where
-  pub changed : (timers : Timers) (n : ℕ) (f : Session → Session) (ss : List Session) → ((s : Session) → slice_get ss n ≡ Some s → Keeps f s) →
-      P timers ss → P timers (changed_at n f ss)
-  pub more : (timers : Timers) (ss : List Session) (x : Session) → has_keys x ≡ false → P timers ss → P timers (ss ++ x ∷ [])
+-- it is in the stage that it was in
+pub record KeepsStage (f : Session → Session) (s : Session) : Type 0 where
+  pub stage : (f s).stage ≡ s.stage
+  pub began : (f s).began ≡ s.began
+  pub is_open : (f s).is_open ≡ s.is_open
+
+keeps_keys : (f : Session → Session) (s : Session) → KeepsStage f s → Keeps f s
+keeps_keys f s keeps = record { keys = record { keyed = ap is_keyed keeps.stage; began = keeps.began }; is_open = keeps.is_open }
+
+-- a session's stage is that of a known name
+abbrev pub named : Session → Session
+named s = record s { stage = Named }
+
+named_keeps : (s : Session) → s.stage ≡ Opening → Keeps named s
+named_keeps s opening = record { keys = record { keyed = sym (ap is_keyed opening); began = refl }; is_open = refl }
+
+-- a change that keeps these leaves it so, and so do a name for a session that is in its first stage, and a session more that is in it
+pub record Stays (P : Facts) : Type 0 where
+  pub changed : (timers : Timers) (name : Option (List ℕ)) (n : ℕ) (f : Session → Session) (ss : List Session) → ((s : Session) → slice_get ss n ≡ Some s → KeepsStage f s) →
+      P timers name ss → P timers name (changed_at n f ss)
+  pub given : (timers : Timers) (before : Option (List ℕ)) (name : List ℕ) (n : ℕ) (ss : List Session) → ((s : Session) → slice_get ss n ≡ Some s → s.stage ≡ Opening) →
+      P timers before ss → P timers (Some name) (changed_at n named ss)
+  pub more : (timers : Timers) (name : Option (List ℕ)) (ss : List Session) (x : Session) → x.stage ≡ Opening → P timers name ss → P timers name (ss ++ x ∷ [])
 
 -- ---- what stays
 
-pub over_stays : (at : ℕ) → Stays (IsOver at)
+pub over_stays : (at : ℕ) → Stays (AnyName (IsOver at))
 over_stays at = record {
-  changed = λ timers n f ss keeps is. transition_changed timers at n f ss (λ s here. (keeps s here).keys) ∙ is;
-  more = λ timers ss x none is. transition_more timers at ss x none ∙ is;
+  changed = λ timers name n f ss keeps is. transition_changed timers at n f ss (λ s here. (keeps_keys f s (keeps s here)).keys) ∙ is;
+  given = λ timers before name n ss opening is. transition_changed timers at n named ss (λ s here. (named_keeps s (opening s here)).keys) ∙ is;
+  more = λ timers name ss x opening is. transition_more timers at ss x (ap is_keyed opening) ∙ is;
 }
 
 -- a session of a changed list stood in the old one
@@ -67,10 +93,11 @@ more_retired at timers ss x none is = λ m t older here shut.
     let there = retiring_keyed ss m was in
     transition_more timers at ss x none ∙ is m t was (sym (at_more ss x m there.session there.here) ∙ here) shut
 
-pub retired_stays : (at : ℕ) → Stays (IsRetired at)
+pub retired_stays : (at : ℕ) → Stays (AnyName (IsRetired at))
 retired_stays at = record {
-  changed = λ timers n f ss keeps is. changed_retired at timers n f ss keeps is;
-  more = λ timers ss x none is. more_retired at timers ss x none is;
+  changed = λ timers name n f ss keeps is. changed_retired at timers n f ss (λ s here. keeps_keys f s (keeps s here)) is;
+  given = λ timers before name n ss opening is. changed_retired at timers n named ss (λ s here. named_keeps s (opening s here)) is;
+  more = λ timers name ss x opening is. more_retired at timers ss x (ap is_keyed opening) is;
 }
 
 -- and so does the closing of one

@@ -17,7 +17,7 @@ use Rattle.peer_table.specs.Places.{before_if, changed_at, last_place, later, pl
 use Rattle.peer_table.specs.EngineAnswers.{message_in, message_of, prepared_message}
 use Rattle.peer_table.specs.Exchange.{at_most_two, chosen, exchanged, exchanged_from, exchanged_with, is_open_keyed, oldest_of, server_source, session_closed}
 use Rattle.key_sessions.specs.Slots.{LastIsOpen}
-use Rattle.peer_session.proofs.Retired.{IsRetired, OfPeer, stood}
+use Rattle.peer_session.proofs.Retired.{AnyName, IsRetired, OfPeer, stood}
 use Rattle.peer_session.proofs.Retiring.{retiring_changed}
 
 -- ---- the newest session gets keys
@@ -166,12 +166,12 @@ oldest_closed ss n (a ∷ c ∷ d ∷ more) size front e still = λ m t older he
 still_retired : (at : ℕ) (timers : Timers) (ss : List Session) → StillOpen ss → IsRetired at timers ss
 still_retired at timers ss still = λ n s older here shut. absurd (false≢true (sym shut ∙ still n s older here))
 
-closed_retired : (at : ℕ) (o : Option ℕ) (c : Outcome Turn) → StillOpen (after_oldest o c.peer.sessions) → OfPeer (IsRetired at) (session_closed o c).peer
+closed_retired : (at : ℕ) (o : Option ℕ) (c : Outcome Turn) → StillOpen (after_oldest o c.peer.sessions) → OfPeer (AnyName (IsRetired at)) (session_closed o c).peer
 closed_retired at None c still = still_retired at c.peer.timers c.peer.sessions still
 closed_retired at (Some n) c still = still_retired at c.peer.timers (changed_at n closed c.peer.sessions) still
 
 at_most_two_retired : (at n : ℕ) (c : Outcome Turn) → length c.peer.sessions ≡ suc n → retiring c.peer.sessions ≡ last_place has_keys (take n c.peer.sessions) →
-    StillOpen c.peer.sessions → OfPeer (IsRetired at) (at_most_two c).peer
+    StillOpen c.peer.sessions → OfPeer (AnyName (IsRetired at)) (at_most_two c).peer
 at_most_two_retired at n c size front still =
     closed_retired at (oldest_of (places_from is_open_keyed 0 c.peer.sessions)) c
     (oldest_closed c.peer.sessions n (places_from is_open_keyed 0 c.peer.sessions) size front refl still)
@@ -182,7 +182,7 @@ changed_length zero f (s ∷ ss) = refl
 changed_length (suc n) f (s ∷ ss) = ap suc (changed_length n f ss)
 
 exchanged_with_retired : (at peer_id : ℕ) (p : Peer) (own : Source) (m : Km2) (used : ℕ) (cipher : Option Cipher) → IsLast p.sessions (newest p.sessions) → LastIsOpen p.sessions →
-    OfPeer (IsRetired at) p → OfPeer (IsRetired at) (exchanged_with peer_id p own m used cipher).peer
+    OfPeer (AnyName (IsRetired at)) p → OfPeer (AnyName (IsRetired at)) (exchanged_with peer_id p own m used cipher).peer
 exchanged_with_retired at peer_id p own m used None last open_one is = is
 exchanged_with_retired at peer_id p own m used (Some cipher) last open_one is =
     at_most_two_retired at (newest p.sessions) _ (changed_length (newest p.sessions) _ p.sessions ∙ last.size)
@@ -203,14 +203,14 @@ last_of p None m here is = absurd (none-some m is)
 last_of p (Some s) m here is = record { session = s; size = size_of p.sessions s here; here = here; none = no_keys_in p s s.stage m is }
 
 exchanged_from_retired : (at : ℕ) (policy : Policy) (peer_id : ℕ) (p : Peer) (own : Source) (m : Option (Km2 × ℕ)) → message_of p (newest_session p.sessions) ≡ m →
-    LastIsOpen p.sessions → OfPeer (IsRetired at) p → OfPeer (IsRetired at) (exchanged_from policy peer_id p own m).peer
+    LastIsOpen p.sessions → OfPeer (AnyName (IsRetired at)) p → OfPeer (AnyName (IsRetired at)) (exchanged_from policy peer_id p own m).peer
 exchanged_from_retired at policy peer_id p own None e open_one is = is
 exchanged_from_retired at policy peer_id p own (Some m) e open_one is =
     exchanged_with_retired at peer_id p own m.0 m.1 (chosen policy m.0.info) (last_of p (newest_session p.sessions) m refl e) open_one is
 
 -- the key exchange of the newest session
-pub exchange_retired : (at : ℕ) (policy : Policy) (peer_id : ℕ) (draw : Draw) (p : Peer) → LastIsOpen p.sessions → OfPeer (IsRetired at) p →
-    OfPeer (IsRetired at) (exchanged policy peer_id draw p).peer
+pub exchange_retired : (at : ℕ) (policy : Policy) (peer_id : ℕ) (draw : Draw) (p : Peer) → LastIsOpen p.sessions → OfPeer (AnyName (IsRetired at)) p →
+    OfPeer (AnyName (IsRetired at)) (exchanged policy peer_id draw p).peer
 unfolding exchanged prepared_message
 exchange_retired at policy peer_id draw p open_one is =
     exchanged_from_retired at policy peer_id p (server_source draw) (message_of p (newest_session p.sessions)) refl open_one is

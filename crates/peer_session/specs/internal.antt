@@ -8,4 +8,4 @@ pub mod Rooms
 pub mod Unread
 pub mod Taking
 pub mod Ticking
-pub mod Courses
+pub mod Unnamed

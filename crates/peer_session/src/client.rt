@@ -2,7 +2,7 @@
 
 ghost use Rattle.std.specs.Prelude.{◌≡◌};
 
-use crate::laws::retired_sessions_stay_retired;
+use crate::laws::{names_come_first, retired_sessions_stay_retired};
 use crate::session::PeerSession;
 use opcode_codec::ControlView;
 use packet_ids::Spent;
@@ -15,6 +15,7 @@ use vpn_links::{Kind, Outbox};
 impl ClientSession for PeerSession<Wrapper> {
     ghost use Rattle.peer_session.specs.Client.{ClientStands, IsReadyFor};
     ghost use Rattle.peer_session.specs.Standing as standing;
+    ghost use Rattle.peer_session.specs.internal.Unnamed.{name_comes_first};
     ghost use Rattle.peer_session.specs.internal.Unread.{nothing_read_before};
 
     ghost stands = { ClientStands };
@@ -33,6 +34,8 @@ impl ClientSession for PeerSession<Wrapper> {
 
     ghost nothing_read_before = { nothing_read_before };
 
+    ghost name_comes_first = { name_comes_first };
+
     #[tactic(auto, unfolding(crate::specs::Client::ClientStands))]
     fn begin(
         alloc: Global,
@@ -46,6 +49,7 @@ impl ClientSession for PeerSession<Wrapper> {
         out: &mut Outbox,
     ) -> Result<PeerSession<Wrapper>, NoMemory> {
         retired_sessions_stay_retired::<Wrapper>();
+        names_come_first();
         PeerSession::begin(alloc, role, key, own, timers, conn, now, to, out)
     }
 
@@ -67,6 +71,7 @@ impl ClientSession for PeerSession<Wrapper> {
         out: &mut Outbox,
     ) -> Result<Result<Turn, Refused>, NoMemory> {
         retired_sessions_stay_retired::<Wrapper>();
+        names_come_first();
         PeerSession::on_control(self, opened, view, to, next_conn, established, now, out)
     }
 
@@ -79,6 +84,7 @@ impl ClientSession for PeerSession<Wrapper> {
         out: &mut Outbox,
     ) -> Result<Turn, NoMemory> {
         retired_sessions_stay_retired::<Wrapper>();
+        names_come_first();
         PeerSession::on_engine(self, kind, to, now, out)
     }
 
@@ -93,6 +99,7 @@ impl ClientSession for PeerSession<Wrapper> {
         out: &mut Outbox,
     ) -> Result<Turn, NoMemory> {
         retired_sessions_stay_retired::<Wrapper>();
+        names_come_first();
         let _ = (to, now);
         PeerSession::exchange(self, policy, peer_id, draw, out)
     }
@@ -105,6 +112,7 @@ impl ClientSession for PeerSession<Wrapper> {
     #[tactic(auto, unfolding(crate::specs::Client::ClientStands))]
     fn pass_message(&mut self) {
         retired_sessions_stay_retired::<Wrapper>();
+        names_come_first();
         PeerSession::pass_message(self)
     }
 
@@ -119,18 +127,21 @@ impl ClientSession for PeerSession<Wrapper> {
         out: &mut Outbox,
     ) -> Result<Turn, NoMemory> {
         retired_sessions_stay_retired::<Wrapper>();
+        names_come_first();
         PeerSession::on_tick(self, next_conn, established, idle, to, now, out)
     }
 
     #[tactic(auto, unfolding(crate::specs::Client::ClientStands))]
     fn seal_to(&mut self, inner: &[u8], to: Addr, out: &mut Outbox) -> Result<(), Spent> {
         retired_sessions_stay_retired::<Wrapper>();
+        names_come_first();
         PeerSession::seal_to(self, inner, to, out)
     }
 
     #[tactic(auto, unfolding(crate::specs::Client::ClientStands))]
     fn unseal(&mut self, datagram: &mut [u8], now: Moment) -> Result<usize, SessionFault> {
         retired_sessions_stay_retired::<Wrapper>();
+        names_come_first();
         PeerSession::unseal(self, datagram, now)
     }
 
@@ -172,6 +183,11 @@ impl ClientSession for PeerSession<Wrapper> {
     #[tactic(auto, unfolding(crate::specs::Client::ClientStands))]
     fn place(&self, kid: u8) -> Option<Place> {
         PeerSession::place(self, kid)
+    }
+
+    #[tactic(auto, unfolding(crate::specs::Client::ClientStands))]
+    fn place_numbered(&self, number: u64) -> Option<Place> {
+        PeerSession::place_numbered(self, number)
     }
 
     #[tactic(auto, unfolding(crate::specs::Client::ClientStands))]

@@ -1,4 +1,5 @@
-//! A law on the key sessions of a client: what was closed as no longer usable is not usable later.
+//! Laws on the key sessions of a client: what was closed as no longer usable is not usable later, and the name comes
+//! first.
 
 ghost use Rattle.std.specs.Prelude.{◌≡◌, ◌≤◌, ℕ, true, false, List, Some, None};
 ghost use Rattle.vpn_base.specs.declared.names.Conn.{Conn};
@@ -17,6 +18,7 @@ ghost use Rattle.peer_table.specs.Exchange.{after_message, exchanged};
 ghost use Rattle.peer_table.specs.Orderly.{IsOrderly};
 ghost use Rattle.peer_table.specs.Peer.{Peer, began};
 ghost use Rattle.peer_table.specs.Time.{Ticking, is_late, retired, ticked};
+ghost use Rattle.peer_table.specs.Unnamed.{NameComesFirst};
 ghost use Rattle.key_sessions.specs.Slots.{LastIsOpen};
 ghost use Rattle.peer_session.specs.declared.session.PeerSession.{PeerSession};
 ghost use Rattle.peer_session.specs.Standing.{PeerStands, RetiredBy, UsableAreOpen};
@@ -44,4 +46,18 @@ pub fn retired_sessions_stay_retired<W: Drop>()
     ensures remembered { (since after : ℕ) (t : Ticking) (p : Peer) → RetiredBy since p → since ≤ after →
         ((n : ℕ) → is_late p t ≡ false → t.idle ≡ false → retired p t.at ≡ Some n → after ≡ t.at) → RetiredBy after (ticked t p).peer }
     ensures stands { (wrapped : W → Wrapping) (s : PeerSession W) (p : Peer) → PeerStands wrapped s p → LastIsOpen p.sessions × IsOrderly p.sessions }
+{}
+
+/// Until the name of a client is known, no key session gets beyond its first stage: this holds from a client's
+/// beginning on and through each call.
+pub fn names_come_first()
+    ensures begins { (role : Role) (wraps : Wrapping) (own : Sid) (timers : Timers) (conn : Conn) (now : ℕ) →
+        NameComesFirst (began role wraps own timers conn now).peer }
+    ensures control { (p : Peer) (i : Incoming) → NameComesFirst p → NameComesFirst (control_came p i).peer }
+    ensures engine { (kind : Kind) (now : ℕ) (p : Peer) → NameComesFirst p → NameComesFirst (engine_came kind now p).peer }
+    ensures exchange { (policy : Policy) (peer_id : ℕ) (draw : Draw) (p : Peer) → NameComesFirst p → NameComesFirst (exchanged policy peer_id draw p).peer }
+    ensures message { (p : Peer) → NameComesFirst p → NameComesFirst (after_message p) }
+    ensures seals { (inner : List ℕ) (p : Peer) → NameComesFirst p → NameComesFirst (sealed_to inner p).peer }
+    ensures opens { (datagram : List ℕ) (moment : Moment) (p : Peer) → NameComesFirst p → NameComesFirst (data_came datagram moment p).peer }
+    ensures tick { (t : Ticking) (p : Peer) → NameComesFirst p → NameComesFirst (ticked t p).peer }
 {}

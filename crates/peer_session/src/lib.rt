@@ -18,16 +18,11 @@ mod packets;
 mod plain;
 mod ready;
 mod rooms;
-mod runs;
 mod said;
 mod session;
 mod tick;
 mod ticks;
 mod turns;
 
-pub use laws::retired_sessions_stay_retired;
-pub use runs::{SessionAnswer, SessionEvent, SessionSetup, run_session};
+pub use laws::{names_come_first, retired_sessions_stay_retired};
 pub use session::PeerSession;
-
-#[cfg(test)]
-mod tests;

@@ -100,9 +100,9 @@ impl<W: Wrap + Drop> PeerSession<W> {
         }
     }
 
-    // The key session of this number.
+    /// The key session of this number, if there is one.
     #[tactic(auto, using(crate::proofs::Seen::place_is), unfolding(crate::specs::Standing::PeerStands))]
-    fn place_numbered(&self, number: u64) -> Option<Place>
+    pub fn place_numbered(&self, number: u64) -> Option<Place>
         ensures { (p : Peer) → PeerStands W.wrapped self.now p → result ≡ place_numbered number p }
     {
         match self.slots.at(number) {

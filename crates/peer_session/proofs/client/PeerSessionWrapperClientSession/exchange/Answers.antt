@@ -16,8 +16,9 @@ returns-clause-left c p stands =
     let o = exchanged c.args.policy.now c.args.peer_id c.args.draw.now p in
     let last = (law.stands (λ (d : Directions). wrapped d.writes) c.args.self.now p stands.session).0 in
     let retired = subst (λ (n : ℕ). RetiredBy n o.peer) (sym c.exchange.ensures.since) (law.exchange was c.args.policy.now c.args.peer_id c.args.draw.now p last stands.retired) in
+    let named = c.names_come_first.ensures.exchange c.args.policy.now c.args.peer_id c.args.draw.now p stands.named in
     let kept = subst (λ (n : ℕ). RetiredBy n p) (sym c.exchange.ensures.since) stands.retired in
     leaves_with c.exchange.result SessionStands ClientStands s c.args.out.now c.exchange.new.out c.args.to p o
-    (on_ok_always c.exchange.result (SessionStands s o.peer → ClientStands s o.peer) (λ session. record { session = session; retired = retired }))
-    (λ session. record { session = session; retired = kept })
+    (on_ok_always c.exchange.result (SessionStands s o.peer → ClientStands s o.peer) (λ session. record { session = session; retired = retired; named = named }))
+    (λ session. record { session = session; retired = kept; named = stands.named })
     (c.exchange.ensures.left p c.args.to stands.session)

@@ -17,10 +17,11 @@ returns-clause-left c p stands =
     let i = incoming c.args.opened.now c.args.view.now c.args.next_conn c.args.established c.args.now in
     let o = control_came p i in
     let retired = subst (λ (n : ℕ). RetiredBy n o.peer) (sym c.on_control.ensures.since) (law.control was p i stands.retired) in
+    let named = c.names_come_first.ensures.control p i stands.named in
     let kept = subst (λ (n : ℕ). RetiredBy n p) (sym c.on_control.ensures.since) stands.retired in
     leaves_with c.on_control.result SessionStands ClientStands s c.args.out.now c.on_control.new.out c.args.to p o
-    (on_ok_always c.on_control.result (SessionStands s o.peer → ClientStands s o.peer) (λ session. record { session = session; retired = retired }))
-    (λ session. record { session = session; retired = kept })
+    (on_ok_always c.on_control.result (SessionStands s o.peer → ClientStands s o.peer) (λ session. record { session = session; retired = retired; named = named }))
+    (λ session. record { session = session; retired = kept; named = stands.named })
     (c.on_control.ensures.left p (law.usable was c.args.now.0 p stands.retired c.requires.later) stands.session)
 
 pub returns-clause-answer : goal.returns-clause-answer

@@ -13,9 +13,10 @@ returns-clause-left c p stands =
     let s = c.on_tick.new.self in
     let t = ticking c.args.now.0 c.args.next_conn c.args.established c.args.idle in
     let o = ticked t p in
+    let named = c.names_come_first.ensures.tick t p stands.named in
     leaves_with c.on_tick.result SessionStands ClientStands s c.args.out.now c.on_tick.new.out c.args.to p o
     (on_ok_from c.on_tick.result (λ n. is_late p t ≡ false → t.idle ≡ false → retired p t.at ≡ Some n → since s ≡ t.at) (SessionStands s o.peer → ClientStands s o.peer)
     (λ n. c.on_tick.ensures.closed p n stands.session)
-    (λ closed session. record { session = session; retired = law.remembered was (since s) t p stands.retired c.on_tick.ensures.since.0 closed }))
-    (λ session. record { session = session; retired = law.later was (since s) p stands.retired c.on_tick.ensures.since.0 })
+    (λ closed session. record { session = session; retired = law.remembered was (since s) t p stands.retired c.on_tick.ensures.since.0 closed; named = named }))
+    (λ session. record { session = session; retired = law.later was (since s) p stands.retired c.on_tick.ensures.since.0; named = stands.named })
     (c.on_tick.ensures.left p stands.session)

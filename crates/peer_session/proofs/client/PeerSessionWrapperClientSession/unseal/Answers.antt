@@ -13,6 +13,7 @@ returns-clause-left c p stands =
       session = c.unseal.ensures.left p (law.usable was c.args.now.0 p stands.retired c.requires.later) stands.session;
       retired = subst (λ (n : ℕ). RetiredBy n (data_came c.args.datagram.now c.args.now p).peer) (sym c.unseal.ensures.since)
           (law.opens was c.args.datagram.now c.args.now p stands.retired);
+      named = c.names_come_first.ensures.opens c.args.datagram.now c.args.now p stands.named;
     }
 
 pub returns-clause-answer : goal.returns-clause-answer

@@ -1,8 +1,8 @@
 use Rattle.std.proofs.Common.{◌≤◌, List, length, take, arith, sym, subst}
-use Rattle.peer_session.specs.Runs.{Course, EventAt, after_events}
-use Rattle.peer_session.specs.internal.Courses.{IsAt}
-use Rattle.peer_session.proofs.Courses.{after_next, after_whole}
-use Rattle.peer_session.proofs.runs.run_all.Goals as goal
+use Rattle.session_runs.specs.Runs.{Course, EventAt, after_events}
+use Rattle.session_runs.specs.internal.Courses.{IsAt}
+use Rattle.session_runs.proofs.Courses.{after_next, after_whole}
+use Rattle.session_runs.proofs.runs.run_all.Goals as goal
 
 pub loop-at-preserved : goal.loop-at-preserved
 loop-at-preserved g c =

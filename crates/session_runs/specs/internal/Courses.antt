@@ -5,10 +5,10 @@ use Rattle.tls_crypt.specs.Packets.{Packet}
 use Rattle.tls_crypt.specs.declared.wrapping.Opened.{Opened}
 use Rattle.peer_table.specs.Outboxes.{GoesOnUnlessOver}
 use Rattle.peer_table.specs.Peer.{Peer}
-use Rattle.peer_session.specs.declared.runs.Progress.{Progress}
-use Rattle.peer_session.specs.declared.runs.SessionAnswer.{SessionAnswer}
-use Rattle.peer_session.specs.declared.runs.SessionAnswer.TheVariants as answers
-use Rattle.peer_session.specs.Runs.{Coming, Course}
+use Rattle.session_runs.specs.declared.runs.Progress.{Progress}
+use Rattle.session_runs.specs.declared.runs.SessionAnswer.{SessionAnswer}
+use Rattle.session_runs.specs.declared.runs.SessionAnswer.TheVariants as answers
+use Rattle.session_runs.specs.Runs.{Coming, Course}
 
 -- a control packet that was unwrapped
 abbrev pub opened_packet : Opened → Packet

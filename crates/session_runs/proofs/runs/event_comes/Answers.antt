@@ -1,9 +1,9 @@
 use Rattle.std.proofs.Common.{ℕ, List, length, nat_lt, subst, sym}
-use Rattle.peer_session.specs.Runs.{event_comes, unseal_if}
-use Rattle.peer_session.specs.declared.runs.SessionEvent.{SessionEvent}
-use Rattle.peer_session.specs.internal.Courses.{HasCome}
-use Rattle.peer_session.proofs.Courses.{ok_so}
-use Rattle.peer_session.proofs.runs.event_comes.Goals as goal
+use Rattle.session_runs.specs.Runs.{event_comes, unseal_if}
+use Rattle.session_runs.specs.declared.runs.SessionEvent.{SessionEvent}
+use Rattle.session_runs.specs.internal.Courses.{HasCome}
+use Rattle.session_runs.proofs.Courses.{ok_so}
+use Rattle.session_runs.proofs.runs.event_comes.Goals as goal
 
 pub returns-in-Message-clause-comes : goal.returns-in-Message-clause-comes
 returns-in-Message-clause-comes g c = ok_so c.message_comes.result (λ answer comes p stands.

@@ -9,14 +9,14 @@ use Rattle.tls_crypt.specs.Packets.{Directions, Wrapping}
 use Rattle.tls_crypt.specs.Wrapped.{half, keys_of, read_half, wrapped, written_half}
 use Rattle.peer_table.specs.Outboxes.{Leaves}
 use Rattle.peer_table.specs.Peer.{Peer, began}
-use Rattle.peer_session.specs.declared.runs.Progress.{Progress}
-use Rattle.peer_session.specs.declared.runs.SessionAnswer.{SessionAnswer}
-use Rattle.peer_session.specs.declared.runs.SessionAnswer.TheVariants as answers
+use Rattle.session_runs.specs.declared.runs.Progress.{Progress}
+use Rattle.session_runs.specs.declared.runs.SessionAnswer.{SessionAnswer}
+use Rattle.session_runs.specs.declared.runs.SessionAnswer.TheVariants as answers
 use Rattle.peer_table.specs.declared.outcomes.Turn.{Turn}
 use Rattle.peer_table.specs.declared.outcomes.Turn.TheVariants as turns
-use Rattle.peer_session.specs.declared.runs.SessionSetup.{SessionSetup}
-use Rattle.peer_session.specs.Runs.{Coming, Course, EventAt, after_event, after_event_if, after_events, course_begun, course_with, ends, event_comes, no_earlier, session_run}
-use Rattle.peer_session.specs.internal.Courses.{GoesOnUntil, HasCome, IsAt}
+use Rattle.session_runs.specs.declared.runs.SessionSetup.{SessionSetup}
+use Rattle.session_runs.specs.Runs.{Coming, Course, EventAt, after_event, after_event_if, after_events, course_begun, course_with, ends, event_comes, no_earlier, session_run}
+use Rattle.session_runs.specs.internal.Courses.{GoesOnUntil, HasCome, IsAt}
 
 -- what holds of an answer, from what is known of it
 pub ok_so : {T E : Type 0} (r : Result T E) {P Q : T → Type 0} → ((x : T) → P x → Q x) → IfOk r P → IfOk r Q

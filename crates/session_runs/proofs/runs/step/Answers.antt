@@ -1,6 +1,6 @@
 use Rattle.std.proofs.Common.{ap}
-use Rattle.peer_session.proofs.Courses.{at_after, at_end}
-use Rattle.peer_session.proofs.runs.step.Goals as goal
+use Rattle.session_runs.proofs.Courses.{at_after, at_end}
+use Rattle.session_runs.proofs.runs.step.Goals as goal
 
 pub returns-then-run-clause-at : goal.returns-then-run-clause-at
 returns-then-run-clause-at g c effects staged course at =

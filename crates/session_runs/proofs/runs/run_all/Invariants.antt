@@ -1,8 +1,8 @@
 use Rattle.std.proofs.Common.{◌≡◌, ◌≤◌, ◌+◌, false, take, List}
 use Rattle.vpn_links.specs.Actions.{Action, Datagram}
-use Rattle.peer_session.specs.Runs.{Course, after_events}
-use Rattle.peer_session.specs.internal.Courses.{IsAt}
-use Rattle.peer_session.proofs.runs.run_all.Given as goal
+use Rattle.session_runs.specs.Runs.{Course, after_events}
+use Rattle.session_runs.specs.internal.Courses.{IsAt}
+use Rattle.session_runs.proofs.runs.run_all.Given as goal
 
 abbrev pub invariant-loop-at : goal.invariant-loop-at
 invariant-loop-at g l = record {

@@ -27,11 +27,11 @@ use Rattle.peer_table.specs.declared.outcomes.Refused.{Refused}
 use Rattle.peer_table.specs.declared.outcomes.SessionFault.{SessionFault}
 use Rattle.peer_table.specs.declared.outcomes.Turn.{Turn}
 use Rattle.peer_table.specs.declared.outcomes.Turn.TheVariants.{Over}
-use Rattle.peer_session.specs.declared.runs.SessionAnswer.{SessionAnswer}
-use Rattle.peer_session.specs.declared.runs.SessionAnswer.TheVariants as answers
-use Rattle.peer_session.specs.declared.runs.SessionEvent.{SessionEvent}
-use Rattle.peer_session.specs.declared.runs.SessionEvent.TheVariants as events
-use Rattle.peer_session.specs.declared.runs.SessionSetup.{SessionSetup}
+use Rattle.session_runs.specs.declared.runs.SessionAnswer.{SessionAnswer}
+use Rattle.session_runs.specs.declared.runs.SessionAnswer.TheVariants as answers
+use Rattle.session_runs.specs.declared.runs.SessionEvent.{SessionEvent}
+use Rattle.session_runs.specs.declared.runs.SessionEvent.TheVariants as events
+use Rattle.session_runs.specs.declared.runs.SessionSetup.{SessionSetup}
 
 -- a moment, and what comes then
 abbrev pub EventAt : Type 0

@@ -1,7 +1,7 @@
 use Rattle.std.proofs.Common.{false, List, ap, refl, ◌++◌, ◌∙◌}
-use Rattle.peer_session.specs.Runs.{Course, EventAt, course_begun}
-use Rattle.peer_session.proofs.Courses.{at_begun, run_so}
-use Rattle.peer_session.proofs.runs.run_any.Goals as goal
+use Rattle.session_runs.specs.Runs.{Course, EventAt, course_begun}
+use Rattle.session_runs.proofs.Courses.{at_begun, run_so}
+use Rattle.session_runs.proofs.runs.run_any.Goals as goal
 
 pub returns-clause-answers : goal.returns-clause-answers
 returns-clause-answers g c =

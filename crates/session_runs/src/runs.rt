@@ -10,12 +10,12 @@ ghost use Rattle.peer_table.specs.EngineAnswers.{engine_came};
 ghost use Rattle.peer_table.specs.Exchange.{after_message, next_message};
 ghost use Rattle.peer_table.specs.Peer.{Peer};
 ghost use Rattle.peer_table.specs.Time.{ticked, ticking};
-ghost use Rattle.peer_session.specs.Runs.{Course, after_event, after_events, called, control_read, control_seen, control_unwrapped, ends, event_comes, message_told, opening_told, quiet, session_run, taking_told, unseal_if, seal_if, exchange_if};
-ghost use Rattle.peer_session.specs.declared.runs.SessionAnswer.TheVariants as answers;
-ghost use Rattle.peer_session.specs.internal.Courses.{GoesOnUntil, HasCome, IsAt, opened_packet};
+ghost use Rattle.session_runs.specs.Runs.{Course, after_event, after_events, called, control_read, control_seen, control_unwrapped, ends, event_comes, message_told, opening_told, quiet, session_run, taking_told, unseal_if, seal_if, exchange_if};
+ghost use Rattle.session_runs.specs.declared.runs.SessionAnswer.TheVariants as answers;
+ghost use Rattle.session_runs.specs.internal.Courses.{GoesOnUntil, HasCome, IsAt, opened_packet};
 
-use crate::session::PeerSession;
 use opcode_codec::{Opcode, Packet, read_control, read_packet};
+use peer_session::PeerSession;
 use peer_table::{ClientSession, Refused, SessionFault, Turn};
 use std::alloc::Global;
 use tls_crypt::{Opened, StaticKey, Wrap, Wrapper};
