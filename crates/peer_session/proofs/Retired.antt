@@ -8,9 +8,9 @@ use Rattle.vpn_base.specs.declared.names.Timers.{Timers}
 use Rattle.peer_table.specs.KeySessions.{Named, Opening, Session, began_before, closed, has_keys, in_transition, is_keyed, is_open, newest_usable, retiring, session_at}
 use Rattle.peer_table.specs.Peer.{Peer}
 use Rattle.peer_table.specs.Places.{changed_at}
-use Rattle.peer_session.specs.Standing.{RetiredBy, UsableAreOpen}
+use Rattle.session_state.specs.Standing.{RetiredBy, UsableAreOpen}
 use Rattle.peer_session.proofs.Retiring.{KeepsKeys, at_more, retiring_changed, retiring_more, transition_changed, transition_more}
-use Rattle.peer_session.proofs.Usable.{retiring_keyed}
+use Rattle.session_state.proofs.Usable.{retiring_keyed}
 
 -- ---- facts on the sessions of a client
 

@@ -6,7 +6,7 @@ use Rattle.std.proofs.lemmas.Option.{none-some}
 use Rattle.vpn_base.specs.declared.names.Timers.{Timers}
 use Rattle.peer_table.specs.KeySessions.{Session, began_before, has_keys, has_passed, in_transition, keyed_before, newest_usable, retiring, session_at}
 use Rattle.peer_table.specs.Places.{changed_at, last_place, later}
-use Rattle.peer_session.proofs.Usable.{KeyedAt, in_front, newest_keyed}
+use Rattle.session_state.proofs.Usable.{KeyedAt, in_front, newest_keyed}
 
 -- a session has keys where it had them and nowhere else, and began when it did
 pub record KeepsKeys (f : Session → Session) (s : Session) : Type 0 where

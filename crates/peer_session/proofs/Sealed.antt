@@ -24,13 +24,13 @@ use Rattle.peer_lines.specs.declared.channels.SessionChannels.{SessionChannels}
 use Rattle.peer_lines.specs.Standing.{StandsFor}
 use Rattle.peer_lines.specs.Calls.{after_opening, after_sealing, opening_answer, sealed_as, sealed_if, sealing_answer}
 use Rattle.peer_lines.specs.Calls as lines
-use Rattle.peer_session.specs.declared.session.PeerSession.{PeerSession}
-use Rattle.peer_session.specs.Standing.{IsPeerOf, PeerStands}
-use Rattle.peer_session.proofs.Keeping.{PutBack, alike, no_change, sound_at, text_put}
+use Rattle.session_state.specs.declared.session.SessionState.{SessionState}
+use Rattle.session_state.specs.Standing.{IsPeerOf, PeerStands}
+use Rattle.session_state.proofs.Keeping.{PutBack, alike, no_change, sound_at, text_put}
 
 -- ---- sealing
 
-sealed_by_case : {W : Type 0} (wrapped : W → Wrapping) (before : PeerSession W) (taken slots : Slots SessionChannels) (p : Peer) (n : ℕ) (s : Session) (keys : Keys)
+sealed_by_case : {W : Type 0} (wrapped : W → Wrapping) (before : SessionState W) (taken slots : Slots SessionChannels) (p : Peer) (n : ℕ) (s : Session) (keys : Keys)
     (inner : List ℕ) (text : SessionChannels) (was is_now : Contents) (to : Addr) (b : Bool) →
     IsPeerOf wrapped before p → SlotsStand StandsFor taken p.sessions → slice_get p.sessions n ≡ Some s → PutBack taken slots n text →
     StandsFor text (sealed_if s b) → Holds is_now (was.effects ++ wired to (sealed_as before.role keys s inner b)) was.staged →
@@ -52,7 +52,7 @@ sealed_by_case wrapped before taken slots p n s keys inner text was is_now to tr
 }
 
 -- what sealing in the session of a number leaves
-pub sealed_leaves : {W : Type 0} (wrapped : W → Wrapping) (before : PeerSession W) (taken slots : Slots SessionChannels) (p : Peer) (n : ℕ) (s : Session) (keys : Keys)
+pub sealed_leaves : {W : Type 0} (wrapped : W → Wrapping) (before : SessionState W) (taken slots : Slots SessionChannels) (p : Peer) (n : ℕ) (s : Session) (keys : Keys)
     (inner : List ℕ) (text : SessionChannels) (was is_now : Contents) (to : Addr) →
     IsPeerOf wrapped before p → SlotsStand StandsFor taken p.sessions → slice_get p.sessions n ≡ Some s → PutBack taken slots n text →
     StandsFor text (after_sealing s) → Holds is_now (was.effects ++ wired to (sealing_answer before.role keys inner s)) was.staged →
@@ -79,7 +79,7 @@ has_them s keys keyed = of_stage s.stage keyed
 
 -- ---- opening
 
-judged_case : {W : Type 0} (wrapped : W → Wrapping) (before : PeerSession W) (slots : Slots SessionChannels) (p : Peer) (n : ℕ) (s : Session) (moment : Moment) (id : ℕ) (inner : List ℕ) (f : Freshness) →
+judged_case : {W : Type 0} (wrapped : W → Wrapping) (before : SessionState W) (slots : Slots SessionChannels) (p : Peer) (n : ℕ) (s : Session) (moment : Moment) (id : ℕ) (inner : List ℕ) (f : Freshness) →
     slice_get p.sessions n ≡ Some s →
     PeerStands wrapped (record before { slots = slots }) (record p { sessions = changed_at n (λ _. record s { received = received_judged s.received id moment f }) p.sessions }) →
     PeerStands wrapped (record before { slots = slots }) (table.opened_judged p n s moment id inner f).peer
@@ -95,7 +95,7 @@ judged_case wrapped before slots p n s moment id inner Seen at stands =
 judged_case wrapped before slots p n s moment id inner Late at stands =
     subst (λ (ss : List Session). PeerStands wrapped (record before { slots = slots }) (record p { sessions = ss })) (no_change p.sessions n s at) stands
 
-opened_case : {W : Type 0} (wrapped : W → Wrapping) (before : PeerSession W) (slots : Slots SessionChannels) (p : Peer) (n : ℕ) (s : Session) (moment : Moment) (o : Option (ℕ × List ℕ)) →
+opened_case : {W : Type 0} (wrapped : W → Wrapping) (before : SessionState W) (slots : Slots SessionChannels) (p : Peer) (n : ℕ) (s : Session) (moment : Moment) (o : Option (ℕ × List ℕ)) →
     slice_get p.sessions n ≡ Some s →
     PeerStands wrapped (record before { slots = slots }) (record p { sessions = changed_at n (λ _. record s { received = received_after s.received moment o }) p.sessions }) →
     PeerStands wrapped (record before { slots = slots }) (table.opened_as p n s moment o).peer
@@ -105,7 +105,7 @@ opened_case wrapped before slots p n s moment (Some o) at stands =
     judged_case wrapped before slots p n s moment o.0 o.1 (freshness s.received o.0 moment) at stands
 
 -- what opening in the session of a number leaves
-pub opened_leaves : {W : Type 0} (wrapped : W → Wrapping) (before : PeerSession W) (taken slots : Slots SessionChannels) (p : Peer) (n : ℕ) (s : Session) (keys : Keys)
+pub opened_leaves : {W : Type 0} (wrapped : W → Wrapping) (before : SessionState W) (taken slots : Slots SessionChannels) (p : Peer) (n : ℕ) (s : Session) (keys : Keys)
     (datagram : List ℕ) (moment : Moment) (text : SessionChannels) →
     IsPeerOf wrapped before p → SlotsStand StandsFor taken p.sessions → slice_get p.sessions n ≡ Some s → PutBack taken slots n text →
     StandsFor text (after_opening before.role keys datagram moment s) →
@@ -131,7 +131,7 @@ opened_answer p n s moment None = refl
 opened_answer p n s moment (Some o) = judged_answer p n s moment o.0 o.1 (freshness s.received o.0 moment)
 
 -- and what is answered
-pub opened_tells : {W : Type 0} (wrapped : W → Wrapping) (before : PeerSession W) (p : Peer) (n : ℕ) (s : Session) (keys : Keys) (datagram : List ℕ) (moment : Moment) →
+pub opened_tells : {W : Type 0} (wrapped : W → Wrapping) (before : SessionState W) (p : Peer) (n : ℕ) (s : Session) (keys : Keys) (datagram : List ℕ) (moment : Moment) →
     IsPeerOf wrapped before p → slice_get p.sessions n ≡ Some s → opening_answer before.role keys datagram moment s ≡ (opened_by p datagram n s moment (Some keys)).answer
 unfolding opening_answer
 opened_tells wrapped before p n s keys datagram moment is at =

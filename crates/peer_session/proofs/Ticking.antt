@@ -40,15 +40,15 @@ use Rattle.peer_lines.specs.declared.channels.SessionChannels.{SessionChannels}
 use Rattle.peer_lines.specs.Calls as lines
 use Rattle.peer_lines.specs.Calls.{LineOutcome, linked, unless_wanting}
 use Rattle.peer_lines.specs.Standing.{StandsFor}
-use Rattle.peer_session.specs.declared.session.PeerSession.{PeerSession}
-use Rattle.peer_session.specs.Standing.{BlankIsFor, EachGoesOn, EachGoesOnUnless, EachIsSound, GoesOn, IsPeerOf, PeerStands}
-use Rattle.peer_session.specs.Ready.{IsReady, TakesTick}
+use Rattle.session_state.specs.declared.session.SessionState.{SessionState}
+use Rattle.session_state.specs.Standing.{BlankIsFor, EachGoesOn, EachGoesOnUnless, EachIsSound, GoesOn, IsPeerOf, PeerStands}
+use Rattle.session_state.specs.Ready.{IsReady, TakesTick}
 use Rattle.peer_session.specs.internal.Ticking.{AreOpenYet, HasDone, IsOpenYet, MayGoOn, gone_with, is_end, resent_unless}
-use Rattle.peer_session.proofs.Keeping.{PutBack, alike, goes_at, goes_changed, goes_if, goes_more, goes_of, slots_put, slots_same, sound_at, sound_changed, sound_more, still_sound}
-use Rattle.peer_session.proofs.Ends.{then_done}
-use Rattle.peer_session.proofs.Lines.{Keeps, ready_keeps}
-use Rattle.peer_session.proofs.OpenPlaces.{StandFrom, head_of, tail_of}
-use Rattle.peer_session.proofs.Waits.{newest_at, open_there}
+use Rattle.session_state.proofs.Keeping.{PutBack, alike, goes_at, goes_changed, goes_if, goes_more, goes_of, slots_put, slots_same, sound_at, sound_changed, sound_more, still_sound}
+use Rattle.session_state.proofs.Ends.{then_done}
+use Rattle.session_state.proofs.Lines.{Keeps, ready_keeps}
+use Rattle.session_state.proofs.OpenPlaces.{StandFrom, head_of, tail_of}
+use Rattle.session_state.proofs.Waits.{newest_at, open_there}
 
 -- ---- the sessions of the open numbers
 
@@ -160,11 +160,11 @@ staged_more to staged a b middle after effects first second = (
 
 -- ---- what is due is sent again in a session
 
-same_over : {W : Type 0} (wrapped : W → Wrapping) (session : PeerSession W) (turn : Turn) (p : Peer) → session.is_over ≡ is_end turn → IsPeerOf wrapped session p →
+same_over : {W : Type 0} (wrapped : W → Wrapping) (session : SessionState W) (turn : Turn) (p : Peer) → session.is_over ≡ is_end turn → IsPeerOf wrapped session p →
     EachGoesOnUnless (is_end turn) p.sessions
 same_over wrapped session turn p over is = subst (λ (b : Bool). EachGoesOnUnless b p.sessions) over is.each_goes_on
 
-line_stands : {W : Type 0} (wrapped : W → Wrapping) (session : PeerSession W) (env : Envelope W) (taken slots : Slots SessionChannels) (text : SessionChannels)
+line_stands : {W : Type 0} (wrapped : W → Wrapping) (session : SessionState W) (env : Envelope W) (taken slots : Slots SessionChannels) (text : SessionChannels)
     (over : Bool) (p : Peer) (n : ℕ) (s : Session) (l : link.Outcome) →
     IsPeerOf wrapped session p → SlotsStand StandsFor taken p.sessions → slice_get p.sessions n ≡ Some s → PutBack taken slots n text →
     Keeps s.link p.envelope l → StandsFor text (record s { link = l.link }) → EnvelopeStands wrapped env l.envelope →
@@ -188,7 +188,7 @@ line_stands wrapped session env taken slots text over p n s l is stands at put k
     }
 
 -- a call of its link has gone on with what was done so far
-pub line_done : {W : Type 0} (wrapped : W → Wrapping) (session : PeerSession W) (env : Envelope W) (taken slots : Slots SessionChannels) (text : SessionChannels)
+pub line_done : {W : Type 0} (wrapped : W → Wrapping) (session : SessionState W) (env : Envelope W) (taken slots : Slots SessionChannels) (text : SessionChannels)
     (turn : Turn) (before middle after : Contents) (to : Addr) (n : ℕ) (s : Session) (l : link.Outcome) (o : Outcome Turn) →
     session.is_over ≡ is_end turn → HasDone wrapped session turn before middle to o → SlotsStand StandsFor taken o.peer.sessions → slice_get o.peer.sessions n ≡ Some s →
     PutBack taken slots n text → Keeps s.link o.peer.envelope l → s.link.spent ≡ false → lines.Leaves wrapped text env middle after to (linked s l) →
@@ -211,7 +211,7 @@ line_done wrapped session env taken slots text turn before middle after to n s l
       answer = ap (λ (t : Turn). first_over t (turn_of l.end)) done.answer;
     }
 
-turned_so : {W : Type 0} (wrapped : W → Wrapping) (session : PeerSession W) (turn later turned : Turn) (over : Bool) (end : Option LinkEnd) (before after : Contents) (to : Addr)
+turned_so : {W : Type 0} (wrapped : W → Wrapping) (session : SessionState W) (turn later turned : Turn) (over : Bool) (end : Option LinkEnd) (before after : Contents) (to : Addr)
     (o : Outcome Turn) → later ≡ turn_of end → turned ≡ first_over turn later → over ≡ is_end turned →
     HasDone wrapped (record session { is_over = is_end (first_over turn (turn_of end)) }) (first_over turn (turn_of end)) before after to o →
     HasDone wrapped (record session { is_over = over }) turned before after to o
@@ -220,7 +220,7 @@ turned_so wrapped session turn later turned over end before after to o later_is 
     (subst (λ (t : Turn). HasDone wrapped (record session { is_over = is_end t }) t before after to o) (sym (turned_is ∙ ap (first_over turn) later_is)) done)
 
 -- the same by what the call answered
-pub line_came : {W : Type 0} (wrapped : W → Wrapping) (session : PeerSession W) (env : Envelope W) (taken slots : Slots SessionChannels) (text : SessionChannels)
+pub line_came : {W : Type 0} (wrapped : W → Wrapping) (session : SessionState W) (env : Envelope W) (taken slots : Slots SessionChannels) (text : SessionChannels)
     (turn later turned : Turn) (over : Bool) (before middle after : Contents) (to : Addr) (n : ℕ) (s : Session) (l : link.Outcome) (o : Outcome Turn) →
     session.is_over ≡ is_end turn → HasDone wrapped session turn before middle to o → SlotsStand StandsFor taken o.peer.sessions → slice_get o.peer.sessions n ≡ Some s →
     PutBack taken slots n text → Keeps s.link o.peer.envelope l → s.link.spent ≡ false → lines.Leaves wrapped text env middle after to (linked s l) →
@@ -309,7 +309,7 @@ retired_there p at n is =
     let by = retired_by (retiring p.sessions) (is_open_session (session_at p.sessions (retiring p.sessions))) (in_transition p.timers at p.sessions) n is in
     sym by.1 ∙ ap (λ (o : Option ℕ). is_open_session (session_at p.sessions o)) by.0
 
-closed_stands : {W : Type 0} (wrapped : W → Wrapping) (session : PeerSession W) (slots : Slots SessionChannels) (p : Peer) (n : ℕ) (s : Session) →
+closed_stands : {W : Type 0} (wrapped : W → Wrapping) (session : SessionState W) (slots : Slots SessionChannels) (p : Peer) (n : ℕ) (s : Session) →
     IsPeerOf wrapped session p → slice_get p.sessions n ≡ Some s → SlotsStand StandsFor slots (changed_at n closed p.sessions) → IsWhole slots →
     PeerStands wrapped (record session { slots = slots }) (closed_at n p)
 unfolding PeerStands
@@ -333,7 +333,7 @@ closed_stands wrapped session slots p n s is at stands whole =
     }
 
 -- there is none to close
-pub none_done : {W : Type 0} (wrapped : W → Wrapping) (session : PeerSession W) (slots : Slots SessionChannels) (turn : Turn) (before middle : Contents) (to : Addr)
+pub none_done : {W : Type 0} (wrapped : W → Wrapping) (session : SessionState W) (slots : Slots SessionChannels) (turn : Turn) (before middle : Contents) (to : Addr)
     (o : Outcome Turn) (r : Option ℕ) → false ≡ is_some r → SlotsStand StandsFor slots (closed_in r o.peer.sessions) → IsWhole slots →
     HasDone wrapped session turn before middle to o → HasDone wrapped (record session { slots = slots }) turn before middle to (session_closed r o)
 none_done wrapped session slots turn before middle to o None none stands whole done = record {
@@ -342,7 +342,7 @@ none_done wrapped session slots turn before middle to o None none stands whole d
 }
 none_done wrapped session slots turn before middle to o (Some n) none stands whole done = absurd (false≢true none)
 
-one_done : {W : Type 0} (wrapped : W → Wrapping) (session : PeerSession W) (slots : Slots SessionChannels) (turn : Turn) (before middle after : Contents) (to : Addr)
+one_done : {W : Type 0} (wrapped : W → Wrapping) (session : SessionState W) (slots : Slots SessionChannels) (turn : Turn) (before middle after : Contents) (to : Addr)
     (o : Outcome Turn) (n : ℕ) (s : Session) → slice_get o.peer.sessions n ≡ Some s → SlotsStand StandsFor slots (changed_at n closed o.peer.sessions) → IsWhole slots →
     Holds after (middle.effects ++ actions_of o.peer.role (Closes s.link.conn ∷ [])) middle.staged →
     HasDone wrapped session turn before middle to o → HasDone wrapped (record session { slots = slots }) turn before after to (session_closed (Some n) o)
@@ -357,7 +357,7 @@ one_done wrapped session slots turn before middle after to o n s at stands whole
 }
 
 -- the text that was given tells the connection that is closed
-pub closed_done : {W : Type 0} (wrapped : W → Wrapping) (session : PeerSession W) (slots : Slots SessionChannels) (text : SessionChannels) (turn : Turn)
+pub closed_done : {W : Type 0} (wrapped : W → Wrapping) (session : SessionState W) (slots : Slots SessionChannels) (text : SessionChannels) (turn : Turn)
     (before middle after : Contents) (to : Addr) (o : Outcome Turn) (at : ℕ) (r : Option ℕ) → retired o.peer at ≡ r → true ≡ is_some r →
     SlotsStand StandsFor slots (closed_in r o.peer.sessions) → IsWhole slots → ((s : Session) → session_at o.peer.sessions r ≡ Some s → StandsFor text s) →
     ((s : Session) → StandsFor text s → (end : Role) → Holds after (middle.effects ++ actions_of end (Closes s.link.conn ∷ [])) middle.staged) →
@@ -400,7 +400,7 @@ renewed_is t o =
     ap (λ (all : List Session). record (gone_on (length ss) l so_far) { peer = record so_far.peer { envelope = l.envelope; sessions = all } }) (sym (end_changed ss s (λ x. record x { link = l.link })))
     ∙ ap (ready_sent_in (length ss) t.at so_far) (sym (end_at ss s))
 
-begun_stands : {W : Type 0} (wrapped : W → Wrapping) (session : PeerSession W) (env : Envelope W) (slots : Slots SessionChannels) (blank : Option SessionBlank) (over : Bool) (p : Peer) (s : Session) (l : link.Outcome) →
+begun_stands : {W : Type 0} (wrapped : W → Wrapping) (session : SessionState W) (env : Envelope W) (slots : Slots SessionChannels) (blank : Option SessionBlank) (over : Bool) (p : Peer) (s : Session) (l : link.Outcome) →
     IsPeerOf wrapped session p → Keeps s.link p.envelope l → s.link.kid ≡ kid_of (length p.sessions) → s.stage ≡ Opening → EnvelopeStands wrapped env l.envelope →
     SlotsStand StandsFor slots (p.sessions ++ record s { link = l.link } ∷ []) → IsWhole slots → EachGoesOnUnless over (p.sessions ++ record s { link = l.link } ∷ []) →
     PeerStands wrapped (record session { envelope = env; slots = slots; blank = blank; is_over = over }) (record p { envelope = l.envelope; sessions = p.sessions ++ record s { link = l.link } ∷ [] })
@@ -421,7 +421,7 @@ begun_stands wrapped session env slots blank over p s l is keeps kid stage envel
 }
 
 -- its connection was opened, and what may be sent of it was sent
-pub begun_done : {W : Type 0} (wrapped : W → Wrapping) (session : PeerSession W) (env : Envelope W) (slots : Slots SessionChannels) (blank : Option SessionBlank) (text : SessionChannels)
+pub begun_done : {W : Type 0} (wrapped : W → Wrapping) (session : SessionState W) (env : Envelope W) (slots : Slots SessionChannels) (blank : Option SessionBlank) (text : SessionChannels)
     (turn : Turn) (before middle opened after : Contents) (to : Addr) (t : Ticking) (o : Outcome Turn) →
     session.is_over ≡ is_end turn → HasDone wrapped session turn before middle to o →
     Holds opened (middle.effects ++ EngineOpen t.next_conn session.role ∷ []) middle.staged →
@@ -451,7 +451,7 @@ begun_done wrapped session env slots blank text turn before middle opened after 
     })
 
 -- the same by what the call answered
-pub begun_came : {W : Type 0} (wrapped : W → Wrapping) (session : PeerSession W) (env : Envelope W) (slots : Slots SessionChannels) (blank : Option SessionBlank) (text : SessionChannels)
+pub begun_came : {W : Type 0} (wrapped : W → Wrapping) (session : SessionState W) (env : Envelope W) (slots : Slots SessionChannels) (blank : Option SessionBlank) (text : SessionChannels)
     (turn later turned : Turn) (over : Bool) (before middle opened after : Contents) (to : Addr) (t : Ticking) (o : Outcome Turn) →
     session.is_over ≡ is_end turn → HasDone wrapped session turn before middle to o →
     Holds opened (middle.effects ++ EngineOpen t.next_conn session.role ∷ []) middle.staged →
@@ -478,7 +478,7 @@ next_number ss seen is =
 
 -- ---- going on
 
-pub may_go : {W : Type 0} (session : PeerSession W) → GoesOn session → MayGoOn session
+pub may_go : {W : Type 0} (session : SessionState W) → GoesOn session → MayGoOn session
 unfolding GoesOn MayGoOn
 may_go session goes = record {
   not_over = refl;
@@ -489,15 +489,15 @@ may_go session goes = record {
   blank_for = goes.blank_for;
 }
 
-pub may_whole : {W : Type 0} (session : PeerSession W) → MayGoOn session → IsWhole session.slots
+pub may_whole : {W : Type 0} (session : SessionState W) → MayGoOn session → IsWhole session.slots
 unfolding GoesOn MayGoOn
 may_whole session may = may.whole
 
-pub may_blank : {W : Type 0} (session : PeerSession W) → MayGoOn session → BlankIsFor session.blank session.timers
+pub may_blank : {W : Type 0} (session : SessionState W) → MayGoOn session → BlankIsFor session.blank session.timers
 unfolding GoesOn MayGoOn
 may_blank session may = may.blank_for
 
-pub may_with : {W : Type 0} (session : PeerSession W) (env : Envelope W) (slots : Slots SessionChannels) (over : Bool) → MayGoOn session → IsWhole slots →
+pub may_with : {W : Type 0} (session : SessionState W) (env : Envelope W) (slots : Slots SessionChannels) (over : Bool) → MayGoOn session → IsWhole slots →
     MayGoOn (record session { envelope = env; slots = slots; is_over = over })
 unfolding GoesOn MayGoOn
 may_with session env slots over may whole = record {
@@ -509,7 +509,7 @@ may_with session env slots over may whole = record {
   blank_for = may.blank_for;
 }
 
-pub may_begun : {W : Type 0} (session : PeerSession W) (env : Envelope W) (slots : Slots SessionChannels) (blank : Option SessionBlank) (over : Bool) → MayGoOn session → IsWhole slots →
+pub may_begun : {W : Type 0} (session : SessionState W) (env : Envelope W) (slots : Slots SessionChannels) (blank : Option SessionBlank) (over : Bool) → MayGoOn session → IsWhole slots →
     blank ≡ None → MayGoOn (record session { envelope = env; slots = slots; blank = blank; is_over = over })
 unfolding GoesOn MayGoOn
 may_begun session env slots blank over may whole none = record {
@@ -521,7 +521,7 @@ may_begun session env slots blank over may whole none = record {
   blank_for = subst (λ (b : Option SessionBlank). BlankIsFor b session.timers) (sym none) tt;
 }
 
-goes_now : {W : Type 0} (session : PeerSession W) → MayGoOn session → session.is_over ≡ false → GoesOn session
+goes_now : {W : Type 0} (session : SessionState W) → MayGoOn session → session.is_over ≡ false → GoesOn session
 unfolding GoesOn MayGoOn
 goes_now session may is = record {
   not_over = is;
@@ -533,28 +533,28 @@ goes_now session may is = record {
 }
 
 -- unless its turn is over
-pub goes_unless : {W : Type 0} (session : PeerSession W) (turn : Turn) → MayGoOn session → session.is_over ≡ is_end turn → GoesOnUnlessOver (GoesOn session) turn
+pub goes_unless : {W : Type 0} (session : SessionState W) (turn : Turn) → MayGoOn session → session.is_over ≡ is_end turn → GoesOnUnlessOver (GoesOn session) turn
 goes_unless session Going may is = goes_now session may is
 goes_unless session Ignored may is = goes_now session may is
 goes_unless session Named may is = goes_now session may is
 goes_unless session Exchange may is = goes_now session may is
 goes_unless session (Over cause) may is = tt
 
-pub not_over : {W : Type 0} (session : PeerSession W) → GoesOn session → session.is_over ≡ false
+pub not_over : {W : Type 0} (session : SessionState W) → GoesOn session → session.is_over ≡ false
 unfolding GoesOn
 not_over session goes = goes.not_over
 
 -- no link has ended before
-pub each_goes : {W : Type 0} (wrapped : W → Wrapping) (session : PeerSession W) (p : Peer) → GoesOn session → PeerStands wrapped session p → EachGoesOn p.sessions
+pub each_goes : {W : Type 0} (wrapped : W → Wrapping) (session : SessionState W) (p : Peer) → GoesOn session → PeerStands wrapped session p → EachGoesOn p.sessions
 unfolding GoesOn PeerStands
 each_goes wrapped session p goes is = goes_of session.is_over p.sessions goes.not_over is.each_goes_on
 
-pub tick_taken : {W : Type 0} (session : PeerSession W) (effects bytes : ℕ) → IsReady session Tick effects bytes → TakesTick session effects bytes
+pub tick_taken : {W : Type 0} (session : SessionState W) (effects bytes : ℕ) → IsReady session Tick effects bytes → TakesTick session effects bytes
 unfolding IsReady
 tick_taken session effects bytes ready = ready.own
 
 -- the moment at which it last closed one changes nothing of the rest
-pub done_at : {W : Type 0} (wrapped : W → Wrapping) (session : PeerSession W) (turn : Turn) (before after : Contents) (to : Addr) (o : Outcome Turn) (moment : Moment) →
+pub done_at : {W : Type 0} (wrapped : W → Wrapping) (session : SessionState W) (turn : Turn) (before after : Contents) (to : Addr) (o : Outcome Turn) (moment : Moment) →
     HasDone wrapped session turn before after to o → HasDone wrapped (record session { since = moment }) turn before after to o
 unfolding PeerStands
 done_at wrapped session turn before after to o moment done = record {
@@ -577,7 +577,7 @@ done_at wrapped session turn before after to o moment done = record {
   answer = done.answer;
 }
 
-pub may_at : {W : Type 0} (session : PeerSession W) (moment : Moment) → MayGoOn session → MayGoOn (record session { since = moment })
+pub may_at : {W : Type 0} (session : SessionState W) (moment : Moment) → MayGoOn session → MayGoOn (record session { since = moment })
 unfolding GoesOn MayGoOn
 may_at session moment may = record {
   not_over = refl;
@@ -591,7 +591,7 @@ may_at session moment may = record {
 -- ---- the whole
 
 -- nothing was done yet
-pub none_yet : {W : Type 0} (wrapped : W → Wrapping) (session : PeerSession W) (turn : Turn) (before middle : Contents) (to : Addr) (p : Peer) → PeerStands wrapped session p →
+pub none_yet : {W : Type 0} (wrapped : W → Wrapping) (session : SessionState W) (turn : Turn) (before middle : Contents) (to : Addr) (p : Peer) → PeerStands wrapped session p →
     Holds middle before.effects before.staged → HasDone wrapped session turn before middle to (answered p turn)
 none_yet wrapped session turn before middle to p stands holds = record {
   left = record { peer = stands; outbox = (holds.0 ∙ sym (append-nil before.effects), holds.1 ∙ sym (append-nil before.staged)) };

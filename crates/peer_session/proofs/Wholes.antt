@@ -8,10 +8,10 @@ use Rattle.peer_table.specs.Outboxes.{LeavesUnless}
 use Rattle.peer_table.specs.Peer.{Outcome, Peer}
 
 -- a call leaves what stands for its peer in one sense standing for it in another
-pub leaves_with : {S A B : Type 0} (r : Result B NoMemory) (means meant : S → Peer → Type 0) (s : S) (before after : Contents) (to : Addr) (p : Peer) (o : Outcome A)
-    → OnOk r (means s o.peer → meant s o.peer) → (means s p → meant s p) → LeavesUnless r means s before after to p o → LeavesUnless r meant s before after to p o
-leaves_with (Ok b) means meant s before after to p o done kept leaves = record { peer = done leaves.peer; outbox = leaves.outbox }
-leaves_with (Err e) means meant s before after to p o done kept leaves = (kept leaves.0, leaves.1)
+pub leaves_with : {S T A B : Type 0} (r : Result B NoMemory) (means : S → Peer → Type 0) (meant : T → Peer → Type 0) (s : S) (t : T) (before after : Contents) (to : Addr) (p : Peer) (o : Outcome A)
+    → OnOk r (means s o.peer → meant t o.peer) → (means s p → meant t p) → LeavesUnless r means s before after to p o → LeavesUnless r meant t before after to p o
+leaves_with (Ok b) means meant s t before after to p o done kept leaves = record { peer = done leaves.peer; outbox = leaves.outbox }
+leaves_with (Err e) means meant s t before after to p o done kept leaves = (kept leaves.0, leaves.1)
 
 pub on_ok_always : {A E : Type 0} (r : Result A E) (X : Type 0) → X → OnOk r X
 on_ok_always (Ok a) X x = x

@@ -1,4 +1,2 @@
-pub mod Standing
-pub mod Ready
 pub mod Client
 pub mod internal

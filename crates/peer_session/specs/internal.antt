@@ -1,11 +1,5 @@
 -- What only private functions cite.
-pub mod OpenOnes
 pub mod Beginnings
-pub mod Finished
-pub mod Exchanges
-pub mod Turns
-pub mod Rooms
-pub mod Unread
-pub mod Taking
 pub mod Ticking
+pub mod Unread
 pub mod Unnamed

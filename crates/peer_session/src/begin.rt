@@ -1,6 +1,6 @@
 //! A client's session begins.
 
-ghost use Rattle.std.specs.Prelude.{◌≡◌, ◌≤◌, ◌+◌, ◌^◌, ◌%◌, ◌/◌, ℕ, List, [], ◌∷◌, ◌++◌, length, map, false, IfOk, OnOk, OnErr};
+ghost use Rattle.std.specs.Prelude.{◌≡◌, ◌≤◌, ◌+◌, ◌^◌, ◌%◌, ◌/◌, ℕ, List, [], ◌++◌, map, false, IfOk, OnOk, OnErr};
 ghost use Rattle.vpn_base.specs.declared.names.Conn.{Conn};
 ghost use Rattle.vpn_base.specs.declared.address.Addr.{Addr};
 ghost use Rattle.vpn_base.specs.declared.names.Role.TheVariants.{Client, Server};
@@ -14,14 +14,14 @@ ghost use Rattle.peer_table.specs.Outboxes.{Leaves, Uses};
 ghost use Rattle.peer_table.specs.Peer.{began, first_reset, wrap_time};
 ghost use Rattle.peer_lines.specs.Standing.{StandsFor};
 ghost use Rattle.tls_crypt.specs.Wrapped.{half, keys_of, wrapped, written_half};
-ghost use Rattle.peer_session.specs.Standing.{GoesOn, PeerStands, SessionStands, count, since};
+ghost use Rattle.session_state.specs.Standing.{GoesOn, PeerStands, SessionStands, count, since};
 ghost use Rattle.peer_session.specs.internal.Beginnings.{IsFirst, peer_of};
 
-use crate::session::PeerSession;
 use control_link::Envelope;
 use key_sessions::{KeySession, Slots};
 use opcode_codec::Opcode;
 use peer_lines::{SessionBlank, SessionChannels};
+use session_state::SessionState;
 use std::alloc::Global;
 use tls_crypt::{StaticKey, Wrap, Wrapper};
 use vpn_base::{Addr, Conn, Moment, NoMemory, Role, Sid, Timers};
@@ -70,7 +70,7 @@ fn session_of<W: Wrap + Drop>(
     timers: Timers,
     text: SessionChannels,
     now: Moment,
-) -> PeerSession<W>
+) -> SessionState<W>
     requires window { 1 ≤ timers.win }
     requires some_timeout { 1 ≤ timers.timeout }
     requires short_timeout { timers.timeout ≤ 60 }
@@ -81,7 +81,7 @@ fn session_of<W: Wrap + Drop>(
     ensures since { since result ≡ 0 }
 {
     let first = KeySession::begin(text, 0, now);
-    PeerSession {
+    SessionState {
         alloc,
         role,
         timers,
@@ -106,7 +106,7 @@ fn begin_server<W: Wrap + Drop>(
     conn: Conn,
     now: Moment,
     out: &mut Outbox,
-) -> Result<PeerSession<W>, NoMemory>
+) -> Result<SessionState<W>, NoMemory>
     requires window { 1 ≤ timers.win }
     requires some_timeout { 1 ≤ timers.timeout }
     requires short_timeout { timers.timeout ≤ 60 }
@@ -169,7 +169,7 @@ fn begin_client<W: Wrap + Drop>(
     now: Moment,
     to: Addr,
     out: &mut Outbox,
-) -> Result<PeerSession<W>, NoMemory>
+) -> Result<SessionState<W>, NoMemory>
     requires window { 1 ≤ timers.win }
     requires some_timeout { 1 ≤ timers.timeout }
     requires short_timeout { timers.timeout ≤ 60 }
@@ -213,35 +213,33 @@ fn begin_client<W: Wrap + Drop>(
     Ok(session_of(alloc, Role::Client, envelope, own, timers, text, now))
 }
 
-impl PeerSession<Wrapper> {
-    /// A session whose key session 0 begins on this connection, which is opened, at this moment in milliseconds.
-    /// The own session id, the timers and the half of the static key for this role are those of its packets.
-    pub fn begin(
-        alloc: Global,
-        role: Role,
-        key: &StaticKey,
-        own: Sid,
-        timers: Timers,
-        conn: Conn,
-        now: Moment,
-        to: Addr,
-        out: &mut Outbox,
-    ) -> Result<PeerSession<Wrapper>, NoMemory>
-        requires window { 1 ≤ timers.win }
-        requires some_timeout { 1 ≤ timers.timeout }
-        requires short_timeout { timers.timeout ≤ 60 }
-        ensures made { IfOk result (λ s. Leaves SessionStands s out.old out.new to
-            (began role (wrapped (keys_of (half key.now.0 (written_half role)))) own timers conn now.0)) }
-        ensures kept { OnErr result (Holds out.new out.old.effects out.old.staged) }
-        ensures goes_on { IfOk result (λ s. GoesOn s) }
-        ensures uses { Uses out.old out.new 2 1200 }
-        ensures first { IfOk result (λ s. count s ≡ 1) }
-        ensures since { IfOk result (λ s. since s ≡ 0) }
-    {
-        let wrap = Wrapper::new(key, role);
-        match role {
-            Role::Server => begin_server(alloc, wrap, own, timers, conn, now, out),
-            Role::Client => begin_client(alloc, wrap, own, timers, conn, now, to, out),
-        }
+// A session whose key session 0 begins on this connection, which is opened, at this moment in milliseconds.
+// The own session id, the timers and the half of the static key for this role are those of its packets.
+pub(crate) fn begin(
+    alloc: Global,
+    role: Role,
+    key: &StaticKey,
+    own: Sid,
+    timers: Timers,
+    conn: Conn,
+    now: Moment,
+    to: Addr,
+    out: &mut Outbox,
+) -> Result<SessionState<Wrapper>, NoMemory>
+    requires window { 1 ≤ timers.win }
+    requires some_timeout { 1 ≤ timers.timeout }
+    requires short_timeout { timers.timeout ≤ 60 }
+    ensures made { IfOk result (λ s. Leaves SessionStands s out.old out.new to
+        (began role (wrapped (keys_of (half key.now.0 (written_half role)))) own timers conn now.0)) }
+    ensures kept { OnErr result (Holds out.new out.old.effects out.old.staged) }
+    ensures goes_on { IfOk result (λ s. GoesOn s) }
+    ensures uses { Uses out.old out.new 2 1200 }
+    ensures first { IfOk result (λ s. count s ≡ 1) }
+    ensures since { IfOk result (λ s. since s ≡ 0) }
+{
+    let wrap = Wrapper::new(key, role);
+    match role {
+        Role::Server => begin_server(alloc, wrap, own, timers, conn, now, out),
+        Role::Client => begin_client(alloc, wrap, own, timers, conn, now, to, out),
     }
 }

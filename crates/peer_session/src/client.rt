@@ -2,11 +2,16 @@
 
 ghost use Rattle.std.specs.Prelude.{◌≡◌};
 
+use crate::begin::begin;
 use crate::laws::{names_come_first, retired_sessions_stay_retired};
+use crate::packets::{seal_to, unseal};
 use crate::session::PeerSession;
+use crate::tick::on_tick;
 use opcode_codec::ControlView;
 use packet_ids::Spent;
 use peer_table::{ClientSession, Message, Refused, SessionFault, Turn};
+use session_control::on_control;
+use session_engine::{exchange, on_engine};
 use std::alloc::Global;
 use tls_crypt::{Opened, StaticKey, Wrapper};
 use vpn_base::{Addr, Cipher, Conn, Draw, Moment, NoMemory, Place, Policy, Role, Sid, Timers};
@@ -14,17 +19,17 @@ use vpn_links::{Kind, Outbox};
 
 impl ClientSession for PeerSession<Wrapper> {
     ghost use Rattle.peer_session.specs.Client.{ClientStands, IsReadyFor};
-    ghost use Rattle.peer_session.specs.Standing as standing;
+    ghost use Rattle.peer_session.specs.Client as client;
     ghost use Rattle.peer_session.specs.internal.Unnamed.{name_comes_first};
     ghost use Rattle.peer_session.specs.internal.Unread.{nothing_read_before};
 
     ghost stands = { ClientStands };
 
-    ghost count = { standing.count };
+    ghost count = { client.count };
 
-    ghost goes_on = { standing.GoesOn };
+    ghost goes_on = { client.GoesOn };
 
-    ghost since = { standing.since };
+    ghost since = { client.since };
 
     ghost is_ready = { IsReadyFor };
 
@@ -50,13 +55,16 @@ impl ClientSession for PeerSession<Wrapper> {
     ) -> Result<PeerSession<Wrapper>, NoMemory> {
         retired_sessions_stay_retired::<Wrapper>();
         names_come_first();
-        PeerSession::begin(alloc, role, key, own, timers, conn, now, to, out)
+        match begin(alloc, role, key, own, timers, conn, now, to, out) {
+            Ok(state) => Ok(PeerSession { state }),
+            Err(NoMemory) => Err(NoMemory),
+        }
     }
 
     #[tactic(auto, unfolding(crate::specs::Client::ClientStands))]
     fn ready(&mut self, kind: &Kind, established: bool) -> Result<(usize, usize), NoMemory> {
         let _ = established;
-        PeerSession::ready(self, kind)
+        self.state.ready(kind)
     }
 
     #[tactic(auto, unfolding(crate::specs::Client::ClientStands))]
@@ -72,7 +80,16 @@ impl ClientSession for PeerSession<Wrapper> {
     ) -> Result<Result<Turn, Refused>, NoMemory> {
         retired_sessions_stay_retired::<Wrapper>();
         names_come_first();
-        PeerSession::on_control(self, opened, view, to, next_conn, established, now, out)
+        on_control(
+            &mut self.state,
+            opened,
+            view,
+            to,
+            next_conn,
+            established,
+            now,
+            out,
+        )
     }
 
     #[tactic(auto, unfolding(crate::specs::Client::ClientStands))]
@@ -85,7 +102,7 @@ impl ClientSession for PeerSession<Wrapper> {
     ) -> Result<Turn, NoMemory> {
         retired_sessions_stay_retired::<Wrapper>();
         names_come_first();
-        PeerSession::on_engine(self, kind, to, now, out)
+        on_engine(&mut self.state, kind, to, now, out)
     }
 
     #[tactic(auto, unfolding(crate::specs::Client::ClientStands))]
@@ -101,19 +118,19 @@ impl ClientSession for PeerSession<Wrapper> {
         retired_sessions_stay_retired::<Wrapper>();
         names_come_first();
         let _ = (to, now);
-        PeerSession::exchange(self, policy, peer_id, draw, out)
+        exchange(&mut self.state, policy, peer_id, draw, out)
     }
 
     #[tactic(auto, unfolding(crate::specs::Client::ClientStands))]
     fn next_message(&self) -> Option<Message<'_>> {
-        PeerSession::next_message(self)
+        self.state.next_message()
     }
 
     #[tactic(auto, unfolding(crate::specs::Client::ClientStands))]
     fn pass_message(&mut self) {
         retired_sessions_stay_retired::<Wrapper>();
         names_come_first();
-        PeerSession::pass_message(self)
+        self.state.pass_message()
     }
 
     #[tactic(auto, unfolding(crate::specs::Client::ClientStands))]
@@ -128,90 +145,90 @@ impl ClientSession for PeerSession<Wrapper> {
     ) -> Result<Turn, NoMemory> {
         retired_sessions_stay_retired::<Wrapper>();
         names_come_first();
-        PeerSession::on_tick(self, next_conn, established, idle, to, now, out)
+        on_tick(&mut self.state, next_conn, established, idle, to, now, out)
     }
 
     #[tactic(auto, unfolding(crate::specs::Client::ClientStands))]
     fn seal_to(&mut self, inner: &[u8], to: Addr, out: &mut Outbox) -> Result<(), Spent> {
         retired_sessions_stay_retired::<Wrapper>();
         names_come_first();
-        PeerSession::seal_to(self, inner, to, out)
+        seal_to(&mut self.state, inner, to, out)
     }
 
     #[tactic(auto, unfolding(crate::specs::Client::ClientStands))]
     fn unseal(&mut self, datagram: &mut [u8], now: Moment) -> Result<usize, SessionFault> {
         retired_sessions_stay_retired::<Wrapper>();
         names_come_first();
-        PeerSession::unseal(self, datagram, now)
+        unseal(&mut self.state, datagram, now)
     }
 
     #[tactic(auto, unfolding(crate::specs::Client::ClientStands))]
     fn name(&self) -> Option<&[u8]> {
-        PeerSession::name(self)
+        self.state.name()
     }
 
     #[tactic(auto, unfolding(crate::specs::Client::ClientStands))]
     fn remote(&self) -> Option<Sid> {
-        PeerSession::remote(self)
+        self.state.remote()
     }
 
     #[tactic(auto, unfolding(crate::specs::Client::ClientStands))]
     fn asks_push(&self) -> bool {
-        PeerSession::asks_push(self)
+        self.state.asks_push()
     }
 
     #[tactic(auto, unfolding(crate::specs::Client::ClientStands))]
     fn cipher(&self) -> Option<Cipher> {
-        PeerSession::cipher(self)
+        self.state.cipher()
     }
 
     #[tactic(auto, unfolding(crate::specs::Client::ClientStands))]
     fn cipher_ahead(&self, policy: &Policy) -> Option<Cipher> {
-        PeerSession::cipher_ahead(self, policy)
+        self.state.cipher_ahead(policy)
     }
 
     #[tactic(auto, unfolding(crate::specs::Client::ClientStands))]
     fn has_conn(&self, conn: Conn) -> bool {
-        PeerSession::has_conn(self, conn)
+        self.state.has_conn(conn)
     }
 
     #[tactic(auto, unfolding(crate::specs::Client::ClientStands))]
     fn first_conn(&self) -> Option<Conn> {
-        PeerSession::first_conn(self)
+        self.state.first_conn()
     }
 
     #[tactic(auto, unfolding(crate::specs::Client::ClientStands))]
     fn place(&self, kid: u8) -> Option<Place> {
-        PeerSession::place(self, kid)
+        self.state.place(kid)
     }
 
     #[tactic(auto, unfolding(crate::specs::Client::ClientStands))]
     fn place_numbered(&self, number: u64) -> Option<Place> {
-        PeerSession::place_numbered(self, number)
+        self.state.place_numbered(number)
     }
 
     #[tactic(auto, unfolding(crate::specs::Client::ClientStands))]
     fn unread(&self) -> usize {
-        PeerSession::unread(self)
+        self.state.unread()
     }
 
     #[tactic(auto, unfolding(crate::specs::Client::ClientStands))]
     fn unread_in_all(&self) -> Option<usize> {
-        PeerSession::unread_in_all(self)
+        self.state.unread_in_all()
     }
 
     #[tactic(auto, unfolding(crate::specs::Client::ClientStands))]
     fn data_session(&self, kid: u8, now: Moment) -> Option<u64> {
-        PeerSession::data_session(self, kid, now)
+        self.state.data_session(kid, now)
     }
 
     #[tactic(auto, unfolding(crate::specs::Client::ClientStands))]
     fn control_session(&self, kid: u8, now: Moment) -> u64 {
-        PeerSession::control_session(self, kid, now)
+        self.state.control_session(kid, now)
     }
 
     #[tactic(auto, unfolding(crate::specs::Client::ClientStands))]
     fn close_all(&self, out: &mut Outbox) -> Result<(), NoMemory> {
-        PeerSession::close_all(self, out)
+        self.state.close_all(out)
     }
 }

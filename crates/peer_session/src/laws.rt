@@ -20,8 +20,8 @@ ghost use Rattle.peer_table.specs.Peer.{Peer, began};
 ghost use Rattle.peer_table.specs.Time.{Ticking, is_late, retired, ticked};
 ghost use Rattle.peer_table.specs.Unnamed.{NameComesFirst};
 ghost use Rattle.key_sessions.specs.Slots.{LastIsOpen};
-ghost use Rattle.peer_session.specs.declared.session.PeerSession.{PeerSession};
-ghost use Rattle.peer_session.specs.Standing.{PeerStands, RetiredBy, UsableAreOpen};
+ghost use Rattle.session_state.specs.declared.session.SessionState.{SessionState};
+ghost use Rattle.session_state.specs.Standing.{PeerStands, RetiredBy, UsableAreOpen};
 
 /// A key session that was closed as no longer usable by a moment, in milliseconds, is not usable then or later:
 /// this holds from a client's beginning on and through each call. A tick closes one only if it is no longer
@@ -45,7 +45,7 @@ pub fn retired_sessions_stay_retired<W: Drop>()
     ensures idle { (since : ℕ) (t : Ticking) (p : Peer) → t.idle ≡ true → RetiredBy since p → RetiredBy since (ticked t p).peer }
     ensures remembered { (since after : ℕ) (t : Ticking) (p : Peer) → RetiredBy since p → since ≤ after →
         ((n : ℕ) → is_late p t ≡ false → t.idle ≡ false → retired p t.at ≡ Some n → after ≡ t.at) → RetiredBy after (ticked t p).peer }
-    ensures stands { (wrapped : W → Wrapping) (s : PeerSession W) (p : Peer) → PeerStands wrapped s p → LastIsOpen p.sessions × IsOrderly p.sessions }
+    ensures stands { (wrapped : W → Wrapping) (s : SessionState W) (p : Peer) → PeerStands wrapped s p → LastIsOpen p.sessions × IsOrderly p.sessions }
 {}
 
 /// Until the name of a client is known, no key session gets beyond its first stage: this holds from a client's

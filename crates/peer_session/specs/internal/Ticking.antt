@@ -11,8 +11,8 @@ use Rattle.peer_table.specs.Peer.{Outcome, Peer, answered}
 use Rattle.peer_table.specs.Time.{Ticking, renewed, resent, resent_in, retired, staying}
 use Rattle.peer_table.specs.declared.outcomes.Turn.{Turn}
 use Rattle.peer_table.specs.declared.outcomes.Turn.TheVariants.{Going, Ignored, Named, Exchange, Over}
-use Rattle.peer_session.specs.declared.session.PeerSession.{PeerSession}
-use Rattle.peer_session.specs.Standing.{GoesOn, PeerStands}
+use Rattle.session_state.specs.declared.session.SessionState.{SessionState}
+use Rattle.session_state.specs.Standing.{GoesOn, PeerStands}
 
 -- whether a turn ends the client
 abbrev pub is_end : Turn → Bool
@@ -23,16 +23,16 @@ is_end Exchange = false
 is_end (Over cause) = true
 
 -- all that a session needs to go on, whether or not it is over
-unfoldable pub MayGoOn : {W : Type 0} → PeerSession W → Type 0
+unfoldable pub MayGoOn : {W : Type 0} → SessionState W → Type 0
 MayGoOn s = GoesOn (record s { is_over = false })
 
 -- the session and the outbox, which held this before, are left as the outcome says, and the turn is its answer
-pub record HasDone {W : Type 0} (wrapped : W → Wrapping) (session : PeerSession W) (turn : Turn) (before after : Contents) (to : Addr) (o : Outcome Turn) : Type 0 where
+pub record HasDone {W : Type 0} (wrapped : W → Wrapping) (session : SessionState W) (turn : Turn) (before after : Contents) (to : Addr) (o : Outcome Turn) : Type 0 where
   pub left : Leaves (PeerStands wrapped) session before after to o
   pub answer : turn ≡ o.answer
 
 -- how far the newest key session has come, and the memory for a next one, are as before
-pub record KeepsNext {W : Type 0} (before after : PeerSession W) : Type 0 where
+pub record KeepsNext {W : Type 0} (before after : SessionState W) : Type 0 where
   pub stage : newest_stage after.slots ≡ newest_stage before.slots
   pub number : newest_number after.slots ≡ newest_number before.slots
   pub place : room after.slots ≡ room before.slots

@@ -19,7 +19,7 @@ use Rattle.peer_lines.specs.declared.channels.SessionChannels.{SessionChannels}
 use Rattle.peer_lines.specs.Standing.{DataStands, IsKeyedBy, StandsFor}
 use Rattle.peer_session.specs.declared.session.PeerSession.{PeerSession}
 use Rattle.peer_session.specs.Client.{ClientStands}
-use Rattle.peer_session.specs.Standing.{PeerStands}
+use Rattle.session_state.specs.Standing.{PeerStands}
 
 no_keys : (s : Session) → has_keys s ≡ false → keys_of s.stage ≡ None
 no_keys s none = by_stage s.stage none
@@ -71,4 +71,4 @@ each_unread (slot ∷ slots) (x ∷ ss) (suc n) s each at none has = each_unread
 pub nothing_read_before : (s : PeerSession Directions) (p : Peer) → ClientStands s p → NothingReadBefore p.sessions
 unfolding ClientStands PeerStands SlotsStand IsWhole
 nothing_read_before s p stands x at none =
-    each_unread (all_slots s.slots) p.sessions (newest p.sessions) x stands.session.slots_stand.each at none (stands.session.whole (newest p.sessions))
+    each_unread (all_slots s.state.slots) p.sessions (newest p.sessions) x stands.session.slots_stand.each at none (stands.session.whole (newest p.sessions))

@@ -8,8 +8,8 @@ use Rattle.control_link.specs.Envelope.{EnvelopeStands, envelope_begun}
 use Rattle.peer_table.specs.KeySessions.{session_begun}
 use Rattle.peer_table.specs.Peer.{began, first_reset, wrap_time}
 use Rattle.peer_lines.specs.Calls.{begun_sent}
-use Rattle.peer_session.proofs.Ends.{ok_value}
-use Rattle.peer_session.proofs.Lines.{ready_keeps}
+use Rattle.session_state.proofs.Ends.{ok_value}
+use Rattle.session_state.proofs.Lines.{ready_keeps}
 use Rattle.peer_session.proofs.Resets.{settled_only}
 use Rattle.peer_session.proofs.begin.begin_client.Goals as goal
 

@@ -1,7 +1,7 @@
 use Rattle.std.proofs.Common.{◌+◌, sym, ap, ◌∙◌, refl}
 use Rattle.std.proofs.lemmas.Bool.{false≢true}
 use Rattle.peer_table.specs.KeySessions.{is_keyed}
-use Rattle.peer_session.specs.Standing.{GoesOn, PeerStands, count}
+use Rattle.session_state.specs.Standing.{GoesOn, PeerStands, count}
 use Rattle.peer_session.proofs.begin.session_of.Goals as goal
 
 pub returns-clause-stands : goal.returns-clause-stands

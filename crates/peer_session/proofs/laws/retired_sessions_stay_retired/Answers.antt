@@ -2,7 +2,7 @@ use Rattle.std.proofs.Common.{refl, sym, ◌∙◌, arith}
 use Rattle.std.proofs.lemmas.Bool.{false≢true}
 use Rattle.std.proofs.lemmas.Option.{none-some}
 use Rattle.key_sessions.specs.Slots.{SlotsStand}
-use Rattle.peer_session.specs.Standing.{PeerStands, RetiredBy}
+use Rattle.session_state.specs.Standing.{PeerStands, RetiredBy}
 use Rattle.peer_session.proofs.Retired.{retired_later, retired_stays, usable_are_open}
 use Rattle.peer_session.proofs.RetiredCalls.{control_stays, data_stays, engine_stays, message_stays, sealed_stays}
 use Rattle.peer_session.proofs.RetiredExchange.{exchange_retired}

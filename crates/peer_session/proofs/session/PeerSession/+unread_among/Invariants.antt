@@ -1,5 +1,0 @@
-use Rattle.std.proofs.Common.{length}
-use Rattle.peer_session.proofs.session.PeerSession.+unread_among.Given as goal
-
-abbrev pub decreases-unread_among : goal.decreases-unread_among
-decreases-unread_among g l = length l.numbers.now

@@ -1,5 +1,0 @@
-use Rattle.std.proofs.Common.{length}
-use Rattle.peer_session.proofs.session.PeerSession.+unread_sum.Given as goal
-
-abbrev pub decreases-unread_sum : goal.decreases-unread_sum
-decreases-unread_sum g l = length l.numbers.now

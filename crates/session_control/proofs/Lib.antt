@@ -1,0 +1,4 @@
+mod Wraps
+mod Taking
+mod Beginning
+mod Placing

@@ -1,0 +1,10 @@
+mod Pieces
+mod NextTurns
+mod Saying
+mod Names
+mod Answered
+mod Found
+mod Exchanged
+mod Exchanging
+mod ExchangeSteps
+mod Secrets

@@ -1,0 +1,9 @@
+pub mod Seen
+pub mod OpenPlaces
+pub mod Keeping
+pub mod Usable
+pub mod Waits
+pub mod Ends
+pub mod Finished
+pub mod Lines
+pub mod Reserved

@@ -1,0 +1,37 @@
+use Rattle.std.proofs.Common.{ap, sym, ◌∙◌}
+use Rattle.std.specs.Prelude.{is_some}
+use Rattle.session_state.specs.Standing.{PeerStands}
+use Rattle.session_state.proofs.Keeping.{not_there}
+use Rattle.peer_table.specs.KeySessions.{is_keyed}
+use Rattle.peer_table.specs.Peer.{other}
+use Rattle.peer_table.specs.EngineAnswers.{whole_of}
+use Rattle.key_method2.specs.Reading.{reading}
+use Rattle.key_method2.specs.Views.{read_seen}
+use Rattle.session_state.proofs.session.SessionState.whole_message.Goals as goal
+
+pub returns-in-None : goal.returns-in-None
+unfolding PeerStands
+returns-in-None g c = λ p s stands at named.
+    absurd (not_there p.sessions c.args.number s (ap is_some (sym c.in-None.is) ∙ c.text.ensures.some stands.whole p.sessions stands.slots_stand) at
+    (c.sessions_are_open_without_keys.ensures.open p.sessions c.args.number s stands.slots_stand at (ap is_keyed named)))
+
+pub returns-in-Whole : goal.returns-in-Whole
+unfolding PeerStands
+returns-in-Whole g c = λ p s stands at named.
+    let told = c.message.ensures s (c.in-Some.ensures.text p.sessions s stands.slots_stand at) (ap is_keyed named) in
+    ap (λ r. whole_of (read_seen r)) (sym c.in-Whole.is) ∙ ap whole_of told
+    ∙ ap (λ role. whole_of (reading role s.plain)) (c.other.ensures ∙ ap other stands.role_is)
+
+pub returns-in-More : goal.returns-in-More
+unfolding PeerStands
+returns-in-More g c = λ p s stands at named.
+    let told = c.message.ensures s (c.in-Some.ensures.text p.sessions s stands.slots_stand at) (ap is_keyed named) in
+    ap (λ r. whole_of (read_seen r)) (sym c.in-More.is) ∙ ap whole_of told
+    ∙ ap (λ role. whole_of (reading role s.plain)) (c.other.ensures ∙ ap other stands.role_is)
+
+pub returns-in-Bad : goal.returns-in-Bad
+unfolding PeerStands
+returns-in-Bad g c = λ p s stands at named.
+    let told = c.message.ensures s (c.in-Some.ensures.text p.sessions s stands.slots_stand at) (ap is_keyed named) in
+    ap (λ r. whole_of (read_seen r)) (sym c.in-Bad.is) ∙ ap whole_of told
+    ∙ ap (λ role. whole_of (reading role s.plain)) (c.other.ensures ∙ ap other stands.role_is)
