@@ -23,7 +23,7 @@ spelled_once whole law t entries text left takes may only (Within all) = all
 spelled_once whole law t entries text left takes may only (Beyond halts all are none fault) =
     let e = whole text fault in
     let came : events_of entries ≡ e.before ++ e.last ∷ halts =
-        all ∙ (ap (λ (l : List Event). l ++ halts) e.all ∙ append_assoc e.before (e.last ∷ []) halts) in
+    all ∙ (ap (λ (l : List Event). l ++ halts) e.all ∙ append_assoc e.before (e.last ∷ []) halts) in
     let no_more = ends_once law t entries e.before e.last halts takes may only e.halts came in
     sym (ap (λ (l : List Event). events_of entries ++ l) none ∙ (append-nil (events_of entries) ∙ (all ∙ (ap (λ (l : List Event). (spells text).events ++ l) no_more ∙ append-nil (spells text).events))))
 

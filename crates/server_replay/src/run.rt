@@ -10,9 +10,7 @@ ghost use Rattle.server_replay.specs.Replays.{BrokeBy, IsReplay};
 use crate::serve::serve;
 use ovpn_config::Settings;
 use peer_session::PeerSession;
-use replay_links::{
-    ReplayEnd, ReplayLinks, a_cut_is_a_failure, a_whole_schedule_ends_the_program,
-};
+use replay_links::{ReplayEnd, ReplayLinks, a_cut_is_a_failure, a_whole_schedule_ends_the_program};
 use server_table::only_the_end_stops;
 use std::alloc::Global;
 use tls_crypt::{StaticKey, Wrapper};
