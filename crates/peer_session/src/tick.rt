@@ -1,6 +1,6 @@
 //! Time passes for a client's session.
 
-ghost use Rattle.std.specs.Prelude.{◌≡◌, ◌≤◌, ◌<◌, ◌+◌, ◌-◌, ◌*◌, ◌^◌, ℕ, Bool, true, false, not, length, Option, Some, None, is_some, slice_get, IfOk, IsOk, OnOk, MatchResult};
+ghost use Rattle.std.specs.Prelude.{◌≡◌, ◌≤◌, ◌<◌, ◌+◌, ◌-◌, ◌*◌, ◌^◌, ℕ, Bool, true, false, not, length, Option, Some, None, is_some, slice_get, IfOk, IsOk, OnErr, OnOk, MatchResult};
 ghost use Rattle.std.specs.List.{filter};
 ghost use Rattle.vpn_base.specs.declared.names.Timers.{Timers};
 ghost use Rattle.vpn_links.specs.Actions.{Contents, Holds};
@@ -129,6 +129,7 @@ pub(crate) fn on_tick<W: Wrap + Drop>(
     ensures uses { (effects room : ℕ) → IsReady session.old Tick effects room → Uses out.old out.new effects room }
     ensures count { count session.new ≤ count session.old + 1 }
     ensures since { (since session.old ≤ since session.new) × (since session.new ≤ now.0) }
+    ensures since_kept { OnErr result (since session.new ≡ since session.old) }
     ensures closed { (p : Peer) (n : ℕ) → PeerStands W.wrapped session.old p →
         IfOk result (λ _. is_late p (ticking now.0 next_conn established idle) ≡ false → idle ≡ false → retired p now.0 ≡ Some n →
         since session.new ≡ now.0) }

@@ -199,7 +199,8 @@ pub trait ClientSession {
         ensures fits { (effects room : ℕ) → is_ready self.old Kind.Tick established effects room → HasRoom out.old effects room → IsOk result }
         ensures uses { (effects room : ℕ) → is_ready self.old Kind.Tick established effects room → Uses out.old out.new effects room }
         ensures count { count self.new ≤ count self.old + 1 }
-        ensures since { since self.new ≤ now.0 };
+        ensures since { since self.new ≤ now.0 }
+        ensures since_kept { OnErr result (since self.new ≡ since self.old) };
 
     /// Seals an inner packet of at most 1,500 bytes under the newest usable keys, as an effect. `Spent` comes
     /// exactly where the last packet id was used, or where there are no keys. It takes no memory.

@@ -1,5 +1,5 @@
 -- What links of a replay stand for, as they go on.
-use Rattle.std.proofs.Common.{◌≡◌, ℕ, suc, ◌+◌, ◌-◌, ◌<◌, ◌≤◌, Bool, true, false, List, [], ◌∷◌, ◌++◌, length, take, refl, ap, sym, ◌∙◌, subst, arith, append_assoc, append-nil, take_all, length-append, Some, None, Option, if◌then◌else◌, ap₂, leb-false, leb-true, le-leb, length-take-le, lt_of_lt_of_le, nat_le}
+use Rattle.std.proofs.Common.{◌≡◌, ℕ, suc, ◌+◌, ◌-◌, ◌<◌, ◌≤◌, Bool, true, false, List, [], ◌∷◌, ◌++◌, length, take, refl, ap, sym, ◌∙◌, subst, arith, append_assoc, append-nil, take_all, length-append, Some, None, Option, if◌then◌else◌, ap₂, leb-false, leb-true, le-leb, length-take-le, nat_le}
 use Rattle.std.proofs.lemmas.Bool.{false_from_ne_true, false≢true}
 use Rattle.std.proofs.lemmas.List.{map-append, take-append-le}
 use Rattle.vpn_base.specs.Files.{Holding, Absent}
@@ -7,7 +7,7 @@ use Rattle.vpn_base.specs.Sink.{appended}
 use Rattle.vpn_links.specs.Actions.{Action}
 use Rattle.vpn_links.specs.Rounds.{Given, Round, came, gave}
 use Rattle.vpn_links.specs.declared.events.Event.{Event}
-use Rattle.replay_links.specs.Replay.{AllHalt, Beyond, Came, Caused, HasGiven, IsPart, IsRefused, Replay, ReplayStands, StandsFor, Within, Wrote, begun_of, came_in, effect_lines, transcript, transcript_from, without_last}
+use Rattle.replay_links.specs.Replay.{AllHalt, Beyond, Came, Caused, HasGiven, IsFront, IsRefused, Replay, ReplayStands, StandsFor, Within, Wrote, begun_of, came_in, effect_lines, transcript, transcript_from, without_last}
 use Rattle.vpn_base.specs.Files.{IsMissing}
 use Rattle.vpn_links.specs.declared.events.Kind.TheVariants.{Halt}
 use Rattle.schedule_text.specs.EffectLine.{effect_line}
@@ -30,12 +30,12 @@ none_written (Some held) =
 -- ---- at first
 
 pub stands_first : {F S : Type 0} (holding : Holding) (contents : Option (List ℕ)) (r : Replay F S) →
-    r.written ≡ 0 → r.is_open ≡ false → r.given ≡ 0 → r.is_cut ≡ false → r.missing ≡ 0 → r.refused ≡ 0 → r.ended ≡ None → StandsFor holding contents r []
+    r.written ≡ 0 → r.is_open ≡ false → r.given ≡ 0 → r.is_cut ≡ false → r.missing ≡ 0 → r.refused ≡ 0 → r.ended ≡ None → StandsFor holding contents r None []
 stands_first holding contents r written closed given cut missing refused ended = record {
   events = rw closed refl;
   count = given;
   wrote = record {
-    part = [];
+    front = [];
     cut = rw cut refl;
     holds = rw written (rw (none_written contents) (appended-nil contents));
   };
@@ -66,15 +66,15 @@ lines_behind : (number : ℕ) (rounds : List Round) (e : Event) → transcript_f
 lines_behind number [] e = refl
 lines_behind number (r ∷ rounds) e = ap (λ l. effect_lines number r.effects ++ l) (lines_behind (suc number) rounds e)
 
-part_later : (is_cut : Bool) (count later : ℕ) (part : List ℕ) → count ≤ later → IsPart is_cut count part → IsPart is_cut later part
-part_later false count later part more is = is
-part_later true count later part more is = (is.0, is.1, is.2, lt_of_lt_of_le is.3 more, is.4)
+front_later : (is_cut : Bool) (count later : ℕ) (front : List ℕ) → IsFront is_cut count None front → IsFront is_cut later None front
+front_later false count later front is = is
+front_later true count later front is = absurd is
 
-wrote_later : (contents : Option (List ℕ)) (written : ℕ) (is_cut : Bool) (rounds : List Round) (e : Event) → Wrote contents written is_cut rounds → Wrote contents written is_cut (came rounds e)
+wrote_later : (contents : Option (List ℕ)) (written : ℕ) (is_cut : Bool) (rounds : List Round) (e : Event) → Wrote contents written is_cut None rounds → Wrote contents written is_cut None (came rounds e)
 wrote_later contents written is_cut rounds e w = record {
-  part = w.part;
-  cut = part_later is_cut (length rounds) (length (came rounds e)) w.part (omega (arith, came_long rounds e)) w.cut;
-  holds = w.holds ∙ ap (λ l. appended (begun_of contents written) (l ++ w.part)) (sym (lines_behind 0 rounds e));
+  front = w.front;
+  cut = front_later is_cut (length rounds) (length (came rounds e)) w.front w.cut;
+  holds = w.holds ∙ ap (λ l. appended (begun_of contents written) (l ++ w.front)) (sym (lines_behind 0 rounds e));
 }
 
 given_within : (spelled : Spelled) (came_so left later : List Event) (e : Event) → left ≡ e ∷ later → HasGiven spelled came_so left → HasGiven spelled (came_so ++ e ∷ []) later
@@ -96,7 +96,7 @@ given_beyond spelled came_so left e none fault is (Beyond halts so all empty rig
 
 -- an event of the schedule came
 pub stands_within : {F S : Type 0} (holding : Holding) (contents : Option (List ℕ)) (r next : Replay F S) (rounds : List Round) (e : Event) →
-    r.is_open ≡ true → r.left ≡ e ∷ next.left → next ≡ record r { left = next.left; given = r.given + 1 } → StandsFor holding contents r rounds → StandsFor holding contents next (came rounds e)
+    r.is_open ≡ true → r.left ≡ e ∷ next.left → next ≡ record r { left = next.left; given = r.given + 1 } → StandsFor holding contents r None rounds → StandsFor holding contents next None (came rounds e)
 stands_within holding contents r next rounds e opened first is s =
     let shut : (x : Option ReplayEnd) → Caused holding r.is_open r.left r.fault x → Caused holding r.is_open next.left r.fault x = λ x c. cause_later holding r.is_open r.left next.left r.fault e first x c in
     rw is (record {
@@ -120,7 +120,7 @@ stands_within holding contents r next rounds e opened first is s =
 
 -- an end behind the schedule came
 pub stands_beyond : {F S : Type 0} (holding : Holding) (contents : Option (List ℕ)) (r next : Replay F S) (rounds : List Round) (e : Event) →
-    r.is_open ≡ true → r.left ≡ [] → r.fault ≡ None → e.kind ≡ Halt → next ≡ record r { given = r.given + 1 } → StandsFor holding contents r rounds → StandsFor holding contents next (came rounds e)
+    r.is_open ≡ true → r.left ≡ [] → r.fault ≡ None → e.kind ≡ Halt → next ≡ record r { given = r.given + 1 } → StandsFor holding contents r None rounds → StandsFor holding contents next None (came rounds e)
 stands_beyond holding contents r next rounds e opened none right halt is s =
     rw is (record {
       events = came_past holding r.is_open r.text r.left r.fault (came_in rounds) (came_in (came rounds e)) e opened none right halt (came_behind rounds e) s.events;
@@ -141,7 +141,7 @@ stands_beyond holding contents r next rounds e opened none right halt is s =
 -- the line behind the events is refused
 pub stands_refused : {F S : Type 0} (holding : Holding) (contents : Option (List ℕ)) (r next : Replay F S) (rounds : List Round) (f : LineFault) →
     r.is_open ≡ true → r.left ≡ [] → r.fault ≡ Some f → next ≡ record r { refused = next.refused; ended = Some (ends.Refused f.line f.kind) } →
-    StandsFor holding contents r rounds → StandsFor holding contents next rounds
+    StandsFor holding contents r None rounds → StandsFor holding contents next None rounds
 stands_refused holding contents r next rounds f opened none at is s =
     rw is (record {
       events = s.events;
@@ -158,7 +158,7 @@ stands_refused holding contents r next rounds f opened none at is s =
 -- there is no file
 pub stands_missing : {F S : Type 0} (holding : Holding) (contents : Option (List ℕ)) (r next : Replay F S) (rounds : List Round) →
     r.is_open ≡ false → IsMissing holding → next ≡ record r { missing = next.missing; ended = Some ends.Missing } →
-    StandsFor holding contents r rounds → StandsFor holding contents next rounds
+    StandsFor holding contents r None rounds → StandsFor holding contents next None rounds
 stands_missing holding contents r next rounds closed missing is s =
     rw is (record {
       events = s.events;
@@ -172,7 +172,7 @@ stands_missing holding contents r next rounds closed missing is s =
 -- it could not be read
 pub stands_failed : {F S : Type 0} (holding : Holding) (contents : Option (List ℕ)) (r next : Replay F S) (rounds : List Round) →
     r.is_open ≡ false → (r.ended ≡ Some ends.Missing → ⊥) → (¬ (holding ≡ Absent)) → next ≡ record r { files = next.files; ended = Some ends.Failed } →
-    StandsFor holding contents r rounds → StandsFor holding contents next rounds
+    StandsFor holding contents r None rounds → StandsFor holding contents next None rounds
 stands_failed holding contents r next rounds closed other there is s =
     rw is (record {
       events = s.events;
@@ -187,7 +187,7 @@ stands_failed holding contents r next rounds closed other there is s =
 pub stands_open : {F S : Type 0} (holding : Holding) (contents : Option (List ℕ)) (r next : Replay F S) (rounds : List Round) →
     r.is_open ≡ false → (r.ended ≡ Some ends.Missing → ⊥) → IsFrontOf holding next.text → spells next.text ≡ record { events = next.left; fault = next.fault } →
     next ≡ record r { files = next.files; is_open = true; text = next.text; left = next.left; fault = next.fault } →
-    StandsFor holding contents r rounds → StandsFor holding contents next rounds
+    StandsFor holding contents r None rounds → StandsFor holding contents next None rounds
 stands_open holding contents r next rounds closed other front spelled is s =
     let none : came_in rounds ≡ [] = rw closed at s.events in
     rw is (record {
@@ -258,19 +258,19 @@ gave_came (r ∷ s ∷ rounds) g = ap (λ l. r.event ∷ l) (gave_came (s ∷ ro
 -- a line was written whole
 pub stands_given : {F S : Type 0} (holding : Holding) (contents now : Option (List ℕ)) (r next : Replay F S) (rounds : List Round) (a : Action) (last : ℕ) →
     last + 1 ≡ r.given → r.is_cut ≡ false → now ≡ appended contents (effect_line last a) → next ≡ record r { out = next.out; written = r.written + length (effect_line last a) } →
-    StandsFor holding contents r rounds → StandsFor holding now next (gave rounds (record { action = a; is_lost = false }))
+    StandsFor holding contents r None rounds → StandsFor holding now next None (gave rounds (record { action = a; is_lost = false }))
 stands_given holding contents now r next rounds a last number uncut wrote is s =
     let g : Given = record { action = a; is_lost = false } in
     let line = effect_line last a in
-    let none : s.wrote.part ≡ [] = rw uncut at s.wrote.cut in
+    let none : s.wrote.front ≡ [] = rw uncut at s.wrote.cut in
     let more = transcript_more 0 rounds g last (omega (arith, number, s.count)) (omega (arith, number, s.count)) in
     rw is (record {
       events = rw (gave_came rounds g) s.events;
       count = s.count ∙ sym (gave_long rounds g);
       wrote = record {
-        part = [];
+        front = [];
         cut = rw uncut refl;
-        holds = wrote ∙ (ap (λ c. appended c line) s.wrote.holds ∙ (appended-appended (begun_of contents r.written) (transcript rounds ++ s.wrote.part) line
+        holds = wrote ∙ (ap (λ c. appended c line) s.wrote.holds ∙ (appended-appended (begun_of contents r.written) (transcript rounds ++ s.wrote.front) line
             ∙ ap₂ appended (sym (begun_later contents line r.written) ∙ ap (λ c. begun_of c (r.written + length line)) (sym wrote))
             (ap (λ p. (transcript rounds ++ p) ++ line) none ∙ (ap (λ l. l ++ line) (append-nil (transcript rounds)) ∙ (sym more ∙ sym (append-nil (transcript (gave rounds g))))))));
       };
@@ -282,45 +282,61 @@ stands_given holding contents now r next rounds a last number uncut wrote is s =
 -- a line was cut
 pub stands_cut : {F S : Type 0} (holding : Holding) (contents now : Option (List ℕ)) (r next : Replay F S) (rounds : List Round) (a : Action) (last n : ℕ) →
     last + 1 ≡ r.given → r.is_cut ≡ false → n ≤ length (effect_line last a) → now ≡ appended contents (take n (effect_line last a)) → next ≡ record r { out = next.out; written = r.written + n; is_cut = true } →
-    StandsFor holding contents r rounds → StandsFor holding now next rounds
+    StandsFor holding contents r None rounds → StandsFor holding now next (Some a) rounds
 stands_cut holding contents now r next rounds a last n number uncut within wrote is s =
-    let part = take n (effect_line last a) in
-    let none : s.wrote.part ≡ [] = rw uncut at s.wrote.cut in
-    let size : length part ≡ n = length-take-le n (effect_line last a) within in
+    let front = take n (effect_line last a) in
+    let none : s.wrote.front ≡ [] = rw uncut at s.wrote.cut in
+    let size : length front ≡ n = length-take-le n (effect_line last a) within in
     rw is (record {
       events = s.events;
       count = s.count;
       wrote = record {
-        part = part;
-        cut = (last, a, n, omega (arith, number, s.count), refl);
-        holds = wrote ∙ (ap (λ c. appended c part) s.wrote.holds ∙ (appended-appended (begun_of contents r.written) (transcript rounds ++ s.wrote.part) part
-            ∙ ap₂ appended (sym (begun_later contents part r.written) ∙ ap₂ begun_of (sym wrote) (ap (λ m. r.written + m) size))
-            (ap (λ p. (transcript rounds ++ p) ++ part) none ∙ ap (λ l. l ++ part) (append-nil (transcript rounds)))));
+        front = front;
+        cut = (last, n, omega (arith, number, s.count), refl);
+        holds = wrote ∙ (ap (λ c. appended c front) s.wrote.holds ∙ (appended-appended (begun_of contents r.written) (transcript rounds ++ s.wrote.front) front
+            ∙ ap₂ appended (sym (begun_later contents front r.written) ∙ ap₂ begun_of (sym wrote) (ap (λ m. r.written + m) size))
+            (ap (λ p. (transcript rounds ++ p) ++ front) none ∙ ap (λ l. l ++ front) (append-nil (transcript rounds)))));
       };
       cause = s.cause;
       no_file = s.no_file;
       a_line = s.a_line;
     })
 
+front_whole : (is_cut : Bool) (count : ℕ) (a : Action) (front : List ℕ) → IsFront is_cut count None front → IsFront is_cut count (Some a) front
+front_whole false count a front is = is
+front_whole true count a front is = absurd is
+
+-- an effect was not given, and nothing of its line was written
+pub stands_ungiven : {F S : Type 0} (holding : Holding) (contents : Option (List ℕ)) (r : Replay F S) (rounds : List Round) (a : Action) →
+    StandsFor holding contents r None rounds → StandsFor holding contents r (Some a) rounds
+stands_ungiven holding contents r rounds a s = record {
+  events = s.events;
+  count = s.count;
+  wrote = record { front = s.wrote.front; cut = front_whole r.is_cut (length rounds) a s.wrote.front s.wrote.cut; holds = s.wrote.holds };
+  cause = s.cause;
+  no_file = s.no_file;
+  a_line = s.a_line;
+}
+
 -- ---- the same, by the parts that change
 
 pub gave_within : {F S : Type 0} (holding : Holding) (contents : Option (List ℕ)) (r : Replay F S) (rounds : List Round) (e : Event) (later : List Event) (n : ℕ) →
-    r.is_open ≡ true → r.left ≡ e ∷ later → n ≡ r.given + 1 → StandsFor holding contents r rounds → StandsFor holding contents (record r { left = later; given = n }) (came rounds e)
+    r.is_open ≡ true → r.left ≡ e ∷ later → n ≡ r.given + 1 → StandsFor holding contents r None rounds → StandsFor holding contents (record r { left = later; given = n }) None (came rounds e)
 gave_within holding contents r rounds e later n opened first count s =
     stands_within holding contents r (record r { left = later; given = n }) rounds e opened first (ap (λ (m : ℕ). record r { left = later; given = m }) count) s
 
 pub gave_beyond : {F S : Type 0} (holding : Holding) (contents : Option (List ℕ)) (r : Replay F S) (rounds : List Round) (e : Event) (later : List Event) (n : ℕ) →
-    r.is_open ≡ true → r.left ≡ [] → later ≡ [] → r.fault ≡ None → e.kind ≡ Halt → n ≡ r.given + 1 → StandsFor holding contents r rounds → StandsFor holding contents (record r { left = later; given = n }) (came rounds e)
+    r.is_open ≡ true → r.left ≡ [] → later ≡ [] → r.fault ≡ None → e.kind ≡ Halt → n ≡ r.given + 1 → StandsFor holding contents r None rounds → StandsFor holding contents (record r { left = later; given = n }) None (came rounds e)
 gave_beyond holding contents r rounds e later n opened none empty right halt count s =
     rw empty (rw (sym none) (stands_beyond holding contents r (record r { given = n }) rounds e opened none right halt (ap (λ (m : ℕ). record r { given = m }) count) s))
 
 -- a line was written whole, by what files and sink tell
 pub line_given : {F S : Type 0} (holds : F → List ℕ → Holding) (contents : S → Option (List ℕ)) (r next : Replay F S) (rounds : List Round) (a : Action) (line : List ℕ) (last : ℕ) →
     line ≡ effect_line last a → last + 1 ≡ r.given → r.is_cut ≡ false → contents next.out ≡ appended (contents r.out) line → next ≡ record r { out = next.out; written = r.written + length line } →
-    ReplayStands holds contents r rounds → ReplayStands holds contents next (gave rounds (record { action = a; is_lost = false }))
+    ReplayStands holds contents r None rounds → ReplayStands holds contents next None (gave rounds (record { action = a; is_lost = false }))
 line_given holds contents r next rounds a line last written number uncut wrote is s =
     let same = ap (λ (x : Replay _ _). holds x.files x.name) is in
-    subst (λ (h : Holding). StandsFor h (contents next.out) next (gave rounds (record { action = a; is_lost = false }))) (sym same)
+    subst (λ (h : Holding). StandsFor h (contents next.out) next None (gave rounds (record { action = a; is_lost = false }))) (sym same)
     (stands_given (holds r.files r.name) (contents r.out) (contents next.out) r next rounds a last number uncut
     (wrote ∙ ap (appended (contents r.out)) written)
     (is ∙ ap (λ (n : ℕ). record r { out = next.out; written = r.written + n }) (ap length written)) s)
@@ -328,10 +344,10 @@ line_given holds contents r next rounds a line last written number uncut wrote i
 -- a line was cut, by what files and sink tell
 pub line_cut : {F S : Type 0} (holds : F → List ℕ → Holding) (contents : S → Option (List ℕ)) (r next : Replay F S) (rounds : List Round) (a : Action) (line : List ℕ) (last : ℕ) →
     line ≡ effect_line last a → last + 1 ≡ r.given → r.is_cut ≡ false → Cut (contents r.out) (contents next.out) r next line →
-    ReplayStands holds contents r rounds → ReplayStands holds contents next rounds
+    ReplayStands holds contents r None rounds → ReplayStands holds contents next (Some a) rounds
 line_cut holds contents r next rounds a line last written number uncut cut s =
     let same = ap (λ (x : Replay _ _). holds x.files x.name) cut.same in
-    subst (λ (h : Holding). StandsFor h (contents next.out) next rounds) (sym same)
+    subst (λ (h : Holding). StandsFor h (contents next.out) next (Some a) rounds) (sym same)
     (stands_cut (holds r.files r.name) (contents r.out) (contents next.out) r next rounds a last cut.n number uncut
     (subst (λ (l : List ℕ). cut.n ≤ length l) written cut.within)
     (cut.wrote ∙ ap (λ (l : List ℕ). appended (contents r.out) (take cut.n l)) written) cut.same s)

@@ -1,5 +1,5 @@
 -- A schedule that is spelled whole ends the program.
-use Rattle.std.proofs.Common.{◌≡◌, ℕ, List, [], ◌∷◌, refl, ap, sym, None, Some, Err, Ok, Result}
+use Rattle.std.proofs.Common.{◌≡◌, ℕ, List, [], ◌∷◌, refl, ap, sym, None, Err, Ok, Result}
 use Rattle.std.proofs.lemmas.Option.{none-some}
 use Rattle.vpn_base.specs.Lines.{Line, content, lines_of, size}
 use Rattle.schedule_text.specs.declared.event_line.Line.{Line as EventLine}

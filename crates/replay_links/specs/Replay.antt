@@ -68,16 +68,17 @@ transcript_from number (r ∷ rounds) = effect_lines number r.effects ++ transcr
 abbrev pub transcript : List Round → List ℕ
 transcript rounds = transcript_from 0 rounds
 
--- a front of the line of an effect of one of so many events, where the sink cut it, and else nothing
-abbrev pub IsPart : Bool → ℕ → List ℕ → Type 0
-IsPart false count part = part ≡ []
-IsPart true count part = (number : ℕ) × (a : Action) × (n : ℕ) × (number < count) × (part ≡ take n (effect_line number a))
+-- of the effect of the last of so many events that was not given whole, if there is one: a front of its line, where the sink cut it, and else nothing
+abbrev pub IsFront : Bool → ℕ → Option Action → List ℕ → Type 0
+IsFront false count part front = front ≡ []
+IsFront true count None front = ⊥
+IsFront true count (Some a) front = (number : ℕ) × (n : ℕ) × (number + 1 ≡ count) × (front ≡ take n (effect_line number a))
 
--- the sink holds what it held at first, then the transcript, then such a part
-pub record Wrote (contents : Option (List ℕ)) (written : ℕ) (is_cut : Bool) (rounds : List Round) : Type 0 where
-  pub part : List ℕ
-  pub cut : IsPart is_cut (length rounds) part
-  pub holds : contents ≡ appended (begun_of contents written) (transcript rounds ++ part)
+-- the sink holds what it held at first, then the transcript, then such a front
+pub record Wrote (contents : Option (List ℕ)) (written : ℕ) (is_cut : Bool) (part : Option Action) (rounds : List Round) : Type 0 where
+  pub front : List ℕ
+  pub cut : IsFront is_cut (length rounds) part front
+  pub holds : contents ≡ appended (begun_of contents written) (transcript rounds ++ front)
 
 -- ---- the events
 
@@ -116,18 +117,18 @@ IsRefused _ = ⊥
 
 -- ---- together
 
--- links of a replay stand for the events that they gave, each with its effects
-pub record StandsFor {F S : Type 0} (holding : Holding) (contents : Option (List ℕ)) (r : Replay F S) (rounds : List Round) : Type 0 where
+-- links of a replay stand for the events that they gave, each with its effects, and for the effect that was not given whole, if there is one
+pub record StandsFor {F S : Type 0} (holding : Holding) (contents : Option (List ℕ)) (r : Replay F S) (part : Option Action) (rounds : List Round) : Type 0 where
   pub events : Came holding r.is_open r.text r.left r.fault (came_in rounds)
   pub count : r.given ≡ length rounds
-  pub wrote : Wrote contents r.written r.is_cut rounds
+  pub wrote : Wrote contents r.written r.is_cut part rounds
   pub cause : Caused holding r.is_open r.left r.fault r.ended
   pub no_file : 0 < r.missing → r.ended ≡ Some ends.Missing
   pub a_line : 0 < r.refused → IsRefused r.ended
 
 -- the same, by what files and sink tell
-abbrev pub ReplayStands : {F S : Type 0} → (F → List ℕ → Holding) → (S → Option (List ℕ)) → Replay F S → List Round → Type 0
-ReplayStands holds contents r rounds = StandsFor (holds r.files r.name) (contents r.out) r rounds
+abbrev pub ReplayStands : {F S : Type 0} → (F → List ℕ → Holding) → (S → Option (List ℕ)) → Replay F S → Option Action → List Round → Type 0
+ReplayStands holds contents r part rounds = StandsFor (holds r.files r.name) (contents r.out) r part rounds
 
 -- what stands behind links of a replay
 abbrev pub backing_of : {F S : Type 0} → (F → List ℕ → Holding) → (S → Option (List ℕ)) → Replay F S → Backing

@@ -1,11 +1,11 @@
 //! Links of a replay.
 
-ghost use Rattle.std.specs.Prelude.{◌≡◌, ◌+◌, ◌-◌, ◌<◌, ◌≤◌, ◌^◌, ◌++◌, ℕ, List, [], ◌∷◌, length, take, true, false, None, Some, MatchBool, MatchOption, IfOk, IfErr, OnOk, OnErr, Ok, Err, IsTrue, IfSome};
+ghost use Rattle.std.specs.Prelude.{◌≡◌, ◌+◌, ◌-◌, ◌<◌, ◌≤◌, ◌^◌, ◌++◌, ℕ, List, [], ◌∷◌, length, take, true, false, Option, None, Some, MatchBool, MatchOption, IfOk, IfErr, OnOk, OnErr, Ok, Err, IsTrue, IfSome};
 ghost use Rattle.vpn_base.specs.Answers.{IfWhy, Rose};
 ghost use Rattle.vpn_base.specs.Files.{Absent, IsMissing};
 ghost use Rattle.vpn_base.specs.declared.errors.Or.{Or};
-ghost use Rattle.vpn_links.specs.Actions.{action, is_wire};
-ghost use Rattle.vpn_links.specs.Rounds.{IsOfLine, Round, after_give, came};
+ghost use Rattle.vpn_links.specs.Actions.{Action, action, is_wire};
+ghost use Rattle.vpn_links.specs.Rounds.{IsOfLine, Round, after_give, came, part_taken};
 ghost use Rattle.vpn_links.specs.Starts.{Untold, started_with};
 ghost use Rattle.vpn_links.specs.declared.events.Event.{Event};
 ghost use Rattle.vpn_links.specs.declared.links.LinkFault.{LinkFault};
@@ -78,7 +78,7 @@ impl<F: Files, S: Sink> ReplayLinks<F, S> {
     pub fn new(alloc: Global, files: F, name: Text, out: S) -> ReplayLinks<F, S>
         ensures parts { (result.files ≡ files) × (result.out ≡ out) × (result.name ≡ name) }
         ensures none { (result.missing ≡ 0) × (result.refused ≡ 0) × (result.ended ≡ None) }
-        ensures stands { ReplayStands F.holds S.contents result [] }
+        ensures stands { ReplayStands F.holds S.contents result None [] }
         ensures backing { backing_of F.holds S.contents result ≡ record { name = name; holds = F.holds files; begun = S.contents out } }
     {
         ReplayLinks {
@@ -105,7 +105,7 @@ impl<F: Files, S: Sink> ReplayLinks<F, S> {
         ensures same { result ≡ self.now.ended }
 
         // No file, or all events were given and this fault stands behind them.
-        ensures cause { (l : List Round) → ReplayStands F.holds S.contents self.now l →
+        ensures cause { (part : Option Action) (l : List Round) → ReplayStands F.holds S.contents self.now part l →
             Caused (F.holds self.now.files self.now.name) self.now.is_open self.now.left self.now.fault result }
     {
         self.ended
@@ -235,7 +235,7 @@ impl<F: Files, S: Sink> ReplayLinks<F, S> {
     // Reads the schedule, if that was not done yet.
     fn open(&mut self) -> Result<(), Or<LinkFault>>
         ensures opened { OnOk result (self.new.is_open ≡ true) }
-        ensures stands { (l : List Round) → ReplayStands F.holds S.contents self.old l → ReplayStands F.holds S.contents self.new l }
+        ensures stands { (l : List Round) → ReplayStands F.holds S.contents self.old None l → ReplayStands F.holds S.contents self.new None l }
         ensures input { IfErr result (λ e. IfWhy e (λ k. k ≡ LinkFault.Input)) }
         ensures ended { EndsBy result self.old.ended self.new.ended }
         ensures failed { IfErr result (λ e. IfWhy e (λ k. Rose (replay_faults F.faults S.faults self.old k) (replay_faults F.faults S.faults self.new k))) }
@@ -265,8 +265,8 @@ impl<F: Files, S: Sink> ReplayLinks<F, S> {
     // Gives the next event of a schedule that was read.
     fn take_event(&mut self) -> Result<Event, Or<LinkFault>>
         requires { self.old.is_open ≡ true }
-        ensures given { IfOk result (λ e. (l : List Round) → ReplayStands F.holds S.contents self.old l → ReplayStands F.holds S.contents self.new (came l e)) }
-        ensures refused { OnErr result ((l : List Round) → ReplayStands F.holds S.contents self.old l → ReplayStands F.holds S.contents self.new l) }
+        ensures given { IfOk result (λ e. (l : List Round) → ReplayStands F.holds S.contents self.old None l → ReplayStands F.holds S.contents self.new None (came l e)) }
+        ensures refused { OnErr result ((l : List Round) → ReplayStands F.holds S.contents self.old None l → ReplayStands F.holds S.contents self.new None l) }
         ensures datagram { IfOk result (λ e. IsOfLine e.kind) }
         ensures schedule { IfErr result (λ e. IfWhy e (λ k. k ≡ LinkFault.Schedule)) }
         ensures counted { IfErr result (λ e. IfWhy e (λ k. Rose self.old.refused self.new.refused)) }
@@ -338,7 +338,7 @@ impl<F: Files, S: Sink> Links for ReplayLinks<F, S> {
 
     ghost started = { λ _. Untold };
 
-    ghost stands = { λ r l. ReplayStands F.holds S.contents r l };
+    ghost stands = { λ r part l. ReplayStands F.holds S.contents r part l };
 
     ghost faults = { λ r k. replay_faults F.faults S.faults r k };
 
@@ -347,7 +347,7 @@ impl<F: Files, S: Sink> Links for ReplayLinks<F, S> {
     fn start(&mut self, plan: &Plan) -> Result<(), Or<LinkFault>>
         ensures started { OnOk result (Untold ≡ started_with Untold plan.now) }
         ensures refused { OnErr result (Untold ≡ Untold) }
-        ensures rounds { (l : List Round) → ReplayStands F.holds S.contents self.old l → ReplayStands F.holds S.contents self.new l }
+        ensures rounds { (l : List Round) → ReplayStands F.holds S.contents self.old None l → ReplayStands F.holds S.contents self.new None l }
         ensures failed { IfErr result (λ e. IfWhy e (λ k. Rose (replay_faults F.faults S.faults self.old k) (replay_faults F.faults S.faults self.new k))) }
         ensures may { IfErr result (λ e. IfWhy e (λ k. MayFail Starting k)) }
         ensures never_falls { (k : LinkFault) → replay_faults F.faults S.faults self.old k ≤ replay_faults F.faults S.faults self.new k }
@@ -361,8 +361,8 @@ impl<F: Files, S: Sink> Links for ReplayLinks<F, S> {
     }
 
     fn next(&mut self, into: &mut Event) -> Result<(), Or<LinkFault>>
-        ensures given { OnOk result ((l : List Round) → ReplayStands F.holds S.contents self.old l → ReplayStands F.holds S.contents self.new (came l into.new)) }
-        ensures refused { OnErr result ((l : List Round) → ReplayStands F.holds S.contents self.old l → ReplayStands F.holds S.contents self.new l) }
+        ensures given { OnOk result ((l : List Round) → ReplayStands F.holds S.contents self.old None l → ReplayStands F.holds S.contents self.new None (came l into.new)) }
+        ensures refused { OnErr result ((l : List Round) → ReplayStands F.holds S.contents self.old None l → ReplayStands F.holds S.contents self.new None l) }
         ensures datagram { OnOk result (IsOfLine into.new.kind) }
         ensures never_wire { result ≡ Err (Or.Why LinkFault.Wire) → ⊥ }
         ensures started { Untold ≡ Untold }
@@ -386,7 +386,7 @@ impl<F: Files, S: Sink> Links for ReplayLinks<F, S> {
     }
 
     fn give(&mut self, e: &Effect<'_>) -> Result<(), Or<LinkFault>>
-        ensures given { (l : List Round) → ReplayStands F.holds S.contents self.old l → ReplayStands F.holds S.contents self.new (after_give result l (action e.now)) }
+        ensures given { (l : List Round) → ReplayStands F.holds S.contents self.old None l → ReplayStands F.holds S.contents self.new (part_taken result (action e.now)) (after_give result l (action e.now)) }
         ensures wire { result ≡ Err (Or.Why LinkFault.Wire) → IsTrue (is_wire (action e.now)) }
         ensures started { Untold ≡ Untold }
         ensures failed { IfErr result (λ e. IfWhy e (λ k. Rose (replay_faults F.faults S.faults self.old k) (replay_faults F.faults S.faults self.new k))) }

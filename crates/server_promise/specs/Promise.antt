@@ -1,5 +1,5 @@
 -- What a server promises of every run: of each event, over the table as the event finds it, and of the run as a whole.
-use Rattle.std.specs.Prelude.{◌≡◌, ◌≢◌, ℕ, Bool, true, false, List, [], ◌∷◌, ◌++◌, Option, Some, None, Ok}
+use Rattle.std.specs.Prelude.{◌≡◌, ◌≢◌, ℕ, Bool, true, false, List, [], ◌∷◌, ◌++◌, Option, Some, None}
 use Rattle.std.specs.List.{AllByRecursion}
 use Rattle.vpn_base.specs.declared.address.Addr.{Addr}
 use Rattle.vpn_base.specs.declared.names.Cid.{Cid}
@@ -20,7 +20,7 @@ use Rattle.server_table.specs.Courses.{Course}
 use Rattle.server_table.specs.DataDatagrams.{ping}
 use Rattle.server_table.specs.Lookups.{cid}
 use Rattle.server_table.specs.Runs.{Entry, after_all}
-use Rattle.server_table.specs.Step.{course_of, is_over, step}
+use Rattle.server_table.specs.Step.{is_over, step}
 use Rattle.server_laws.specs.Accepted.{Accepts}
 use Rattle.server_laws.specs.HandedOn.{BringsOne, IsDealtWith, IsForward, IsPingToOneHere, IsQuiet, IsSentOn, carrying, verdict_on}
 use Rattle.server_laws.specs.Waiting.{all_appended, all_given}

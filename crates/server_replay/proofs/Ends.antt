@@ -1,12 +1,12 @@
 -- What a replay comes to, by what its links stand for at its end.
-use Rattle.std.proofs.Common.{◌≡◌, ℕ, suc, ◌+◌, ◌≤◌, ◌<◌, Bool, true, false, List, [], ◌++◌, length, refl, ap, sym, ◌∙◌, subst, arith, inl, inr, zero, ◌∷◌, Option, Some}
+use Rattle.std.proofs.Common.{◌≡◌, ℕ, suc, ◌+◌, ◌≤◌, ◌<◌, Bool, true, false, List, [], ◌++◌, length, refl, ap, sym, ◌∙◌, subst, arith, inl, inr, zero, ◌∷◌, Option, None, Some}
 use Rattle.std.specs.Prelude.{◌⊎◌}
 use Rattle.std.proofs.lemmas.List.{length-map}
 use Rattle.vpn_base.specs.Answers.{Rose}
 use Rattle.vpn_base.specs.Files.{Holding}
 use Rattle.vpn_base.specs.Sink.{appended}
 use Rattle.vpn_links.specs.Actions.{Action}
-use Rattle.vpn_links.specs.Faults.{Asking, Giving, LinkCall}
+use Rattle.vpn_links.specs.Faults.{Asking, Giving}
 use Rattle.vpn_links.specs.Rounds.{Given, Round}
 use Rattle.vpn_links.specs.declared.events.Event.{Event}
 use Rattle.vpn_links.specs.declared.links.LinkFault.{LinkFault}
@@ -15,7 +15,7 @@ use Rattle.vpn_node.specs.Running.{Between, BrokeOff, Ends, OnlyWireLost, OnlyWi
 use Rattle.vpn_node.specs.declared.outcome.Outcome.{Outcome}
 use Rattle.vpn_node.specs.declared.outcome.Outcome.TheVariants as outcomes
 use Rattle.vpn_node.specs.declared.outcome.Ran.{Ran}
-use Rattle.replay_links.specs.Replay.{Backing, Came, Caused, IsPart, IsRefused, MayFail, Replay, ReplayStands, StandsFor, Wrote, backing_of, before_cut, begun_of, came_in, replay_faults}
+use Rattle.replay_links.specs.Replay.{Backing, Came, Caused, IsFront, MayFail, Replay, ReplayStands, Wrote, backing_of, before_cut, begun_of, replay_faults}
 use Rattle.replay_links.specs.Replay as links
 use Rattle.replay_links.specs.declared.end.ReplayEnd.{ReplayEnd}
 use Rattle.replay_links.specs.declared.end.ReplayEnd.TheVariants as ends
@@ -31,21 +31,21 @@ use Rattle.server_replay.proofs.Written.{transcript_same}
 -- ---- how it ended
 
 -- the links of a replay start without a fault
-broke_so : (fault : LinkFault) (turns : ℕ) (outs given : List (List Action)) → BrokeOff (with_start MayFail Asking fault) (with_start MayFail Giving fault) turns outs given →
-    BrokeOff (MayFail Asking fault) (MayFail Giving fault) turns outs given
-broke_so fault turns outs given (Between (inl may) whole onward fewer) = Between may whole onward fewer
-broke_so fault turns outs given (Between (inr never) whole onward fewer) = absurd never
-broke_so fault turns outs given (Within may n part within only most) = Within may n part within only most
+broke_so : (fault : LinkFault) (turns : ℕ) (outs given : List (List Action)) (part : Option Action) → BrokeOff (with_start MayFail Asking fault) (with_start MayFail Giving fault) turns outs given part →
+    BrokeOff (MayFail Asking fault) (MayFail Giving fault) turns outs given part
+broke_so fault turns outs given part (Between (inl may) whole none onward fewer) = Between may whole none onward fewer
+broke_so fault turns outs given part (Between (inr never) whole none onward fewer) = absurd never
+broke_so fault turns outs given part (Within may n first at within only most) = Within may n first at within only most
 
-ended_so : (outcome : Outcome) (turns : ℕ) (outs given : List (List Action)) → Ends (with_start MayFail) outcome turns outs given → Ends MayFail outcome turns outs given
-ended_so outcomes.Stopped turns outs given is = is
-ended_so outcomes.TurnsSpent turns outs given is = is
-ended_so outcomes.Memory turns outs given is = is
-ended_so (outcomes.Fault fault) turns outs given is = broke_so fault turns outs given is
+ended_so : (outcome : Outcome) (turns : ℕ) (outs given : List (List Action)) (part : Option Action) → Ends (with_start MayFail) outcome turns outs given part → Ends MayFail outcome turns outs given part
+ended_so outcomes.Stopped turns outs given part is = is
+ended_so outcomes.TurnsSpent turns outs given part is = is
+ended_so outcomes.Memory turns outs given part is = is
+ended_so (outcomes.Fault fault) turns outs given part is = broke_so fault turns outs given part is
 
-never_broke : (turns : ℕ) (outs given : List (List Action)) → BrokeOff ⊥ ⊥ turns outs given → ⊥
-never_broke turns outs given (Between never whole onward fewer) = never
-never_broke turns outs given (Within never n part within only most) = never
+never_broke : (turns : ℕ) (outs given : List (List Action)) (part : Option Action) → BrokeOff ⊥ ⊥ turns outs given part → ⊥
+never_broke turns outs given part (Between never whole none onward fewer) = never
+never_broke turns outs given part (Within never n first at within only most) = never
 
 -- and lose nothing
 none_lost : (given : List Given) → OnlyWireLost (with_start MayFail) given → lost_of given ≡ 0
@@ -68,39 +68,39 @@ input_by files files_now (suc n) ended rose no_file = inl (no_file (omega arith)
 -- ---- what it came to
 
 module _ {F S : Type 0} (holds : F → List ℕ → Holding) (contents : S → Option (List ℕ)) (files_count : F → ℕ) (out_count : S → ℕ) where
-  begun_uncut : (first : Replay F S) → ReplayStands holds contents first [] → first.is_cut ≡ false
+  begun_uncut : (first : Replay F S) → ReplayStands holds contents first None [] → first.is_cut ≡ false
   begun_uncut first s = by_cut first.is_cut refl s.wrote
     where
-      by_cut : (b : Bool) → first.is_cut ≡ b → Wrote (contents first.out) first.written b [] → first.is_cut ≡ false
+      by_cut : (b : Bool) → first.is_cut ≡ b → Wrote (contents first.out) first.written b None [] → first.is_cut ≡ false
       by_cut false is w = is
-      by_cut true is w = absurd (omega (arith, w.cut.3))
+      by_cut true is w = absurd w.cut
 
   -- what broke it off
-  pub broke : (first last : Replay F S) (rounds : List Round) (outcome : Outcome) (outs given : List (List Action)) → Ends (with_start MayFail) outcome most_turns outs given →
-      first.missing ≡ 0 → first.refused ≡ 0 → ReplayStands holds contents last rounds →
+  pub broke : (first last : Replay F S) (rounds : List Round) (outcome : Outcome) (outs given : List (List Action)) (part : Option Action) → Ends (with_start MayFail) outcome most_turns outs given part →
+      first.missing ≡ 0 → first.refused ≡ 0 → ReplayStands holds contents last part rounds →
       Counted outcome (replay_faults files_count out_count first) (replay_faults files_count out_count last) →
       BrokeBy outcome last.ended (files_count first.files, files_count last.files) (out_count first.out, out_count last.out)
-  broke first last rounds outcomes.Stopped outs given ended missing refused s counted = tt
-  broke first last rounds outcomes.TurnsSpent outs given ended missing refused s counted = tt
-  broke first last rounds outcomes.Memory outs given ended missing refused s counted = tt
-  broke first last rounds (outcomes.Fault faults.Input) outs given ended missing refused s counted =
+  broke first last rounds outcomes.Stopped outs given part ended missing refused s counted = tt
+  broke first last rounds outcomes.TurnsSpent outs given part ended missing refused s counted = tt
+  broke first last rounds outcomes.Memory outs given part ended missing refused s counted = tt
+  broke first last rounds (outcomes.Fault faults.Input) outs given part ended missing refused s counted =
       input_by (files_count first.files) (files_count last.files) last.missing last.ended
       (subst (λ (n : ℕ). Rose (files_count first.files + n) (files_count last.files + last.missing)) missing counted) s.no_file
-  broke first last rounds (outcomes.Fault faults.Output) outs given ended missing refused s counted = counted
-  broke first last rounds (outcomes.Fault faults.Schedule) outs given ended missing refused s counted = s.a_line (omega (arith, refused, counted))
-  broke first last rounds (outcomes.Fault faults.Wire) outs given ended missing refused s counted =
-      never_broke most_turns outs given (ended_so (outcomes.Fault faults.Wire) most_turns outs given ended)
-  broke first last rounds (outcomes.Fault faults.Engine) outs given ended missing refused s counted =
-      never_broke most_turns outs given (ended_so (outcomes.Fault faults.Engine) most_turns outs given ended)
-  broke first last rounds (outcomes.Fault faults.Device) outs given ended missing refused s counted =
-      never_broke most_turns outs given (ended_so (outcomes.Fault faults.Device) most_turns outs given ended)
-  broke first last rounds (outcomes.Fault faults.Console) outs given ended missing refused s counted =
-      never_broke most_turns outs given (ended_so (outcomes.Fault faults.Console) most_turns outs given ended)
-  broke first last rounds (outcomes.Fault faults.Random) outs given ended missing refused s counted =
-      never_broke most_turns outs given (ended_so (outcomes.Fault faults.Random) most_turns outs given ended)
+  broke first last rounds (outcomes.Fault faults.Output) outs given part ended missing refused s counted = counted
+  broke first last rounds (outcomes.Fault faults.Schedule) outs given part ended missing refused s counted = s.a_line (omega (arith, refused, counted))
+  broke first last rounds (outcomes.Fault faults.Wire) outs given part ended missing refused s counted =
+      never_broke most_turns outs given part (ended_so (outcomes.Fault faults.Wire) most_turns outs given part ended)
+  broke first last rounds (outcomes.Fault faults.Engine) outs given part ended missing refused s counted =
+      never_broke most_turns outs given part (ended_so (outcomes.Fault faults.Engine) most_turns outs given part ended)
+  broke first last rounds (outcomes.Fault faults.Device) outs given part ended missing refused s counted =
+      never_broke most_turns outs given part (ended_so (outcomes.Fault faults.Device) most_turns outs given part ended)
+  broke first last rounds (outcomes.Fault faults.Console) outs given part ended missing refused s counted =
+      never_broke most_turns outs given part (ended_so (outcomes.Fault faults.Console) most_turns outs given part ended)
+  broke first last rounds (outcomes.Fault faults.Random) outs given part ended missing refused s counted =
+      never_broke most_turns outs given part (ended_so (outcomes.Fault faults.Random) most_turns outs given part ended)
 
   -- no line was cut before, so where one is now the output failed
-  pub uncut : (first last : Replay F S) → ReplayStands holds contents first [] → ((k : LinkFault) → replay_faults files_count out_count first k ≤ replay_faults files_count out_count last k) →
+  pub uncut : (first last : Replay F S) → ReplayStands holds contents first None [] → ((k : LinkFault) → replay_faults files_count out_count first k ≤ replay_faults files_count out_count last k) →
       last.is_cut ≡ true → before_cut false (out_count first.out) ≤ before_cut true (out_count last.out)
   uncut first last s falls cut =
       subst (λ (b : Bool). before_cut false (out_count first.out) ≤ before_cut b (out_count last.out)) cut
@@ -108,7 +108,7 @@ module _ {F S : Type 0} (holds : F → List ℕ → Holding) (contents : S → O
 
   -- the whole
   pub replayed : (t : Table) (first last : Replay F S) (name : List ℕ) (held : List ℕ → Holding) (before : Option (List ℕ)) (ran : Ran) →
-      ReplayStands holds contents first [] → backing_of holds contents first ≡ record { name = name; holds = held; begun = before } →
+      ReplayStands holds contents first None [] → backing_of holds contents first ≡ record { name = name; holds = held; begun = before } →
       backing_of holds contents last ≡ backing_of holds contents first →
       (r : Served (with_start MayFail) t (ReplayStands holds contents first) (ReplayStands holds contents last) ran) →
       WholeEnds → EndStops → TakesYet t (length r.entries) →
@@ -118,11 +118,12 @@ module _ {F S : Type 0} (holds : F → List ℕ → Holding) (contents : S → O
       let is = same ∙ backing in
       let same_held : holds last.files last.name ≡ held name = ap (λ (b : Backing). b.holds b.name) is in
       let wrote : begun_of (contents last.out) last.written ≡ before = ap (λ (b : Backing). b.begun) is in
-      let over = ended_only (with_start MayFail) ran.outcome most_turns (run t r.entries) (given_in r.rounds) r.ended in
+      let over = ended_only (with_start MayFail) ran.outcome most_turns (run t r.entries) (given_in r.rounds) r.part r.ended in
       record {
         entries = r.entries;
         given = given_in r.rounds;
-        part = s.wrote.part;
+        part = r.part;
+        front = s.wrote.front;
         may = r.may;
         schedule = record {
           is_read = last.is_open;
@@ -134,10 +135,10 @@ module _ {F S : Type 0} (holds : F → List ℕ → Holding) (contents : S → O
               (subst (λ (l : List Event). Came (holds last.files last.name) last.is_open last.text last.left last.fault l) r.came s.events));
           cause = subst (λ (h : Holding). Caused h last.is_open last.left last.fault last.ended) same_held s.cause;
         };
-        outcome = ended_so ran.outcome most_turns (run t r.entries) (given_in r.rounds) r.ended;
-        cut = subst (λ (n : ℕ). IsPart last.is_cut n s.wrote.part) (sym (length-map r.rounds (λ (q : Round). q.event)) ∙ (ap length r.came ∙ length-map r.entries (λ (e : Entry). e.0))) s.wrote.cut;
-        written = s.wrote.holds ∙ ap (λ (c : Option (List ℕ)). appended c (links.transcript r.rounds ++ s.wrote.part)) wrote
-            ∙ ap (λ (l : List ℕ). appended before (l ++ s.wrote.part)) (transcript_same r.rounds);
+        outcome = ended_so ran.outcome most_turns (run t r.entries) (given_in r.rounds) r.part r.ended;
+        cut = subst (λ (n : ℕ). IsFront last.is_cut n r.part s.wrote.front) (sym (length-map r.rounds (λ (q : Round). q.event)) ∙ (ap length r.came ∙ length-map r.entries (λ (e : Entry). e.0))) s.wrote.cut;
+        written = s.wrote.holds ∙ ap (λ (c : Option (List ℕ)). appended c (links.transcript r.rounds ++ s.wrote.front)) wrote
+            ∙ ap (λ (l : List ℕ). appended before (l ++ s.wrote.front)) (transcript_same r.rounds);
         events = r.events;
         lost = r.lost ∙ ap capped (nothing_lost r.rounds r.wires);
         refused = r.refused;
@@ -148,7 +149,7 @@ module _ {F S : Type 0} (holds : F → List ℕ → Holding) (contents : S → O
 
   pub replayed_apart : (t : Table) (first last : Replay F S) (name : List ℕ) (held : List ℕ → Holding) (before : Option (List ℕ)) (ran : Ran)
       (out : S) (ended : Option ReplayEnd) (is_cut : Bool) (told : Ran) → out ≡ last.out → ended ≡ last.ended → is_cut ≡ last.is_cut → told ≡ ran →
-      ReplayStands holds contents first [] → backing_of holds contents first ≡ record { name = name; holds = held; begun = before } →
+      ReplayStands holds contents first None [] → backing_of holds contents first ≡ record { name = name; holds = held; begun = before } →
       backing_of holds contents last ≡ backing_of holds contents first →
       (r : Served (with_start MayFail) t (ReplayStands holds contents first) (ReplayStands holds contents last) ran) →
       WholeEnds → EndStops → TakesYet t (length r.entries) →
@@ -162,7 +163,7 @@ module _ {F S : Type 0} (holds : F → List ℕ → Holding) (contents : S → O
 
   pub broke_apart : (t : Table) (first last : Replay F S) (ran : Ran) (files files_now : F) (out out_now : S) (ended : Option ReplayEnd) (told : Ran) →
       files_now ≡ last.files → out_now ≡ last.out → ended ≡ last.ended → told ≡ ran →
-      first.files ≡ files → first.out ≡ out → first.missing ≡ 0 → first.refused ≡ 0 → ReplayStands holds contents first [] →
+      first.files ≡ files → first.out ≡ out → first.missing ≡ 0 → first.refused ≡ 0 → ReplayStands holds contents first None [] →
       Served (with_start MayFail) t (ReplayStands holds contents first) (ReplayStands holds contents last) ran →
       Counted ran.outcome (replay_faults files_count out_count first) (replay_faults files_count out_count last) →
       BrokeBy told.outcome ended (files_count files, files_count files_now) (out_count out, out_count out_now)
@@ -173,9 +174,9 @@ module _ {F S : Type 0} (holds : F → List ℕ → Holding) (contents : S → O
       (subst (λ (x : Ran). BrokeBy x.outcome last.ended (files_count files, files_count last.files) (out_count out, out_count last.out)) (sym is_told)
       (subst (λ (x : F). BrokeBy ran.outcome last.ended (files_count x, files_count last.files) (out_count out, out_count last.out)) had_files
       (subst (λ (x : S). BrokeBy ran.outcome last.ended (files_count first.files, files_count last.files) (out_count x, out_count last.out)) had_out
-      (broke first last r.rounds ran.outcome (run t r.entries) (given_in r.rounds) r.ended missing refused (r.told [] begun) counted))))))
+      (broke first last r.rounds ran.outcome (run t r.entries) (given_in r.rounds) r.part r.ended missing refused (r.told [] begun) counted))))))
 
-  pub uncut_apart : (first last : Replay F S) (out out_now : S) (is_cut : Bool) → out_now ≡ last.out → is_cut ≡ last.is_cut → first.out ≡ out → ReplayStands holds contents first [] →
+  pub uncut_apart : (first last : Replay F S) (out out_now : S) (is_cut : Bool) → out_now ≡ last.out → is_cut ≡ last.is_cut → first.out ≡ out → ReplayStands holds contents first None [] →
       ((k : LinkFault) → replay_faults files_count out_count first k ≤ replay_faults files_count out_count last k) →
       is_cut ≡ true → before_cut false (out_count out) ≤ before_cut true (out_count out_now)
   uncut_apart first last out out_now is_cut is_out is_so had_out begun falls cut =

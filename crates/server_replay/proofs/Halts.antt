@@ -1,16 +1,16 @@
 -- The end of a schedule ends its run: no further event comes behind it.
-use Rattle.std.proofs.Common.{◌≡◌, ◌≢◌, ℕ, suc, ◌+◌, ◌^◌, ◌<◌, ◌≤◌, nat_le, Bool, true, false, not, List, [], ◌∷◌, ◌++◌, length, drop, refl, ap, sym, ◌∙◌, subst, arith, inl, inr, IsTrue}
-use Rattle.std.specs.Prelude.{◌⊎◌, ◌||◌, ◌&&◌, nat_lt}
+use Rattle.std.proofs.Common.{◌≡◌, ◌≢◌, ℕ, suc, ◌+◌, ◌^◌, ◌<◌, ◌≤◌, nat_le, Bool, true, false, not, List, [], ◌∷◌, ◌++◌, length, drop, refl, ap, sym, ◌∙◌, arith, Option, IsTrue}
+use Rattle.std.specs.Prelude.{◌||◌, ◌&&◌}
 use Rattle.std.specs.List.{list_any}
 use Rattle.std.proofs.lemmas.Bool.{false≢true, lt-leb, true≢false}
-use Rattle.vpn_links.specs.Actions.{Action, Stop}
+use Rattle.vpn_links.specs.Actions.{Action, Stop, stops}
 use Rattle.vpn_links.specs.Steps.{Lack, LacksAll, LacksHost, LacksNothing}
 use Rattle.vpn_links.specs.declared.events.Event.{Event}
 use Rattle.vpn_links.specs.declared.events.Kind.{Kind}
 use Rattle.vpn_links.specs.declared.events.Kind.TheVariants.{Halt}
 use Rattle.vpn_links.specs.declared.links.LinkFault.{LinkFault}
 use Rattle.vpn_links.specs.Faults.{LinkCall}
-use Rattle.vpn_node.specs.Running.{Between, BrokeOff, Ends, Within, goes_on, stops, stops_last, stops_only_last}
+use Rattle.vpn_node.specs.Running.{Between, BrokeOff, Ends, Within, goes_on, stops_last, stops_only_last}
 use Rattle.vpn_node.specs.declared.outcome.Outcome.{Outcome}
 use Rattle.vpn_node.specs.declared.outcome.Outcome.TheVariants as outcomes
 use Rattle.server_table.specs.Courses.{outs}
@@ -47,18 +47,18 @@ onward_only (o ∷ p ∷ os) is =
     let parts = or_parts (stops o) (list_any stops (p ∷ os)) is in
     and_both (stops o) (stops_only_last (p ∷ os)) parts.0 (onward_only (p ∷ os) parts.1)
 
-broken_only : (may_ask may_give : Type 0) (turns : ℕ) (os given : List (List Action)) → BrokeOff may_ask may_give turns os given →
+broken_only : (may_ask may_give : Type 0) (turns : ℕ) (os given : List (List Action)) (part : Option Action) → BrokeOff may_ask may_give turns os given part →
     IsTrue (stops_only_last os) × (length os ≤ turns)
-broken_only may_ask may_give turns os given (Between may whole onward fewer) = (onward_only os onward, omega (arith, fewer))
-broken_only may_ask may_give turns os given (Within may n part within only most) = (only, most)
+broken_only may_ask may_give turns os given part (Between may whole none onward fewer) = (onward_only os onward, omega (arith, fewer))
+broken_only may_ask may_give turns os given part (Within may n first at within only most) = (only, most)
 
 -- however a run ended
-pub ended_only : (may_fail : LinkCall → LinkFault → Type 0) (outcome : Outcome) (turns : ℕ) (os given : List (List Action)) → Ends may_fail outcome turns os given →
+pub ended_only : (may_fail : LinkCall → LinkFault → Type 0) (outcome : Outcome) (turns : ℕ) (os given : List (List Action)) (part : Option Action) → Ends may_fail outcome turns os given part →
     IsTrue (stops_only_last os) × (length os ≤ turns)
-ended_only may_fail outcomes.Stopped turns os given is = (last_only os is.1, is.2)
-ended_only may_fail outcomes.TurnsSpent turns os given is = (onward_only os is.1, omega (arith, is.2))
-ended_only may_fail (outcomes.Fault fault) turns os given is = broken_only (may_fail _ fault) (may_fail _ fault) turns os given is
-ended_only may_fail outcomes.Memory turns os given is = broken_only (Unit {0}) (Unit {0}) turns os given is
+ended_only may_fail outcomes.Stopped turns os given part is = (last_only os is.2, is.3)
+ended_only may_fail outcomes.TurnsSpent turns os given part is = (onward_only os is.2, omega (arith, is.3))
+ended_only may_fail (outcomes.Fault fault) turns os given part is = broken_only (may_fail _ fault) (may_fail _ fault) turns os given part is
+ended_only may_fail outcomes.Memory turns os given part is = broken_only (Unit {0}) (Unit {0}) turns os given part is
 
 pub run_length : (t : Table) (entries : List Entry) → length (run t entries) ≡ length entries
 run_length t [] = refl
@@ -70,10 +70,10 @@ pub record TakesYet (t : Table) (n : ℕ) : Type 0 where
   pub room : t.events + n ≤ 2 ^ 48
 
 -- one to which nothing has come takes all events of a run
-pub takes_all : (may_fail : LinkCall → LinkFault → Type 0) (t : Table) (entries : List Entry) (outcome : Outcome) (given : List (List Action)) → t.is_stopped ≡ false → t.events ≡ 0 →
-    Ends may_fail outcome (2 ^ 48) (run t entries) given → TakesYet t (length entries)
-takes_all may_fail t entries outcome given is_on none ended =
-    let most = (ended_only may_fail outcome (2 ^ 48) (run t entries) given ended).1 in
+pub takes_all : (may_fail : LinkCall → LinkFault → Type 0) (t : Table) (entries : List Entry) (outcome : Outcome) (given : List (List Action)) (part : Option Action) → t.is_stopped ≡ false → t.events ≡ 0 →
+    Ends may_fail outcome (2 ^ 48) (run t entries) given part → TakesYet t (length entries)
+takes_all may_fail t entries outcome given part is_on none ended =
+    let most = (ended_only may_fail outcome (2 ^ 48) (run t entries) given part ended).1 in
     record { is_on = is_on; room = let count = run_length t entries in omega (arith, most, count, none) }
 
 -- ---- the end ends it

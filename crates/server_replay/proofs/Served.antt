@@ -1,5 +1,5 @@
 -- What a run of a node over the server's definitions comes to.
-use Rattle.std.proofs.Common.{◌≡◌, ℕ, Bool, List, [], ◌∷◌, inl, refl, ap, sym, ◌∙◌, subst, arith, append-nil}
+use Rattle.std.proofs.Common.{◌≡◌, ℕ, Bool, List, [], ◌∷◌, inl, refl, ap, sym, ◌∙◌, subst, arith, append-nil, Option, None}
 use Rattle.std.proofs.lemmas.List.{length-map}
 use Rattle.vpn_links.specs.Actions.{Action}
 use Rattle.vpn_links.specs.Faults.{Asking, Giving, LinkCall}
@@ -21,18 +21,18 @@ use Rattle.server_replay.proofs.Runs.{entries_of, entry_of, events_same, left_in
 
 -- ---- an outside that is started and run
 
-broke_started : (may_fail : LinkCall → LinkFault → Type 0) (fault : LinkFault) (turns : ℕ) (outs given : List (List Action)) →
-    BrokeOff (may_fail Asking fault) (may_fail Giving fault) turns outs given →
-    BrokeOff (with_start may_fail Asking fault) (with_start may_fail Giving fault) turns outs given
-broke_started may_fail fault turns outs given (Between may whole onward fewer) = Between (inl may) whole onward fewer
-broke_started may_fail fault turns outs given (Within may n part within only most) = Within may n part within only most
+broke_started : (may_fail : LinkCall → LinkFault → Type 0) (fault : LinkFault) (turns : ℕ) (outs given : List (List Action)) (part : Option Action) →
+    BrokeOff (may_fail Asking fault) (may_fail Giving fault) turns outs given part →
+    BrokeOff (with_start may_fail Asking fault) (with_start may_fail Giving fault) turns outs given part
+broke_started may_fail fault turns outs given part (Between may whole none onward fewer) = Between (inl may) whole none onward fewer
+broke_started may_fail fault turns outs given part (Within may n first at within only most) = Within may n first at within only most
 
-pub ended_started : (may_fail : LinkCall → LinkFault → Type 0) (outcome : Outcome) (turns : ℕ) (outs given : List (List Action)) →
-    Ends may_fail outcome turns outs given → Ends (with_start may_fail) outcome turns outs given
-ended_started may_fail outcomes.Stopped turns outs given is = is
-ended_started may_fail outcomes.TurnsSpent turns outs given is = is
-ended_started may_fail (outcomes.Fault fault) turns outs given is = broke_started may_fail fault turns outs given is
-ended_started may_fail outcomes.Memory turns outs given is = is
+pub ended_started : (may_fail : LinkCall → LinkFault → Type 0) (outcome : Outcome) (turns : ℕ) (outs given : List (List Action)) (part : Option Action) →
+    Ends may_fail outcome turns outs given part → Ends (with_start may_fail) outcome turns outs given part
+ended_started may_fail outcomes.Stopped turns outs given part is = is
+ended_started may_fail outcomes.TurnsSpent turns outs given part is = is
+ended_started may_fail (outcomes.Fault fault) turns outs given part is = broke_started may_fail fault turns outs given part is
+ended_started may_fail outcomes.Memory turns outs given part is = is
 
 wire_started : (may_fail : LinkCall → LinkFault → Type 0) (given : List Given) → OnlyWireLost may_fail given → OnlyWireLost (with_start may_fail) given
 wire_started may_fail [] is = tt
@@ -44,18 +44,19 @@ wires_started may_fail (r ∷ rounds) is = (wire_started may_fail r.effects is.0
 
 -- the same of a run over an outside that was started before
 pub over_started : {T : Type 0} (may_fail : LinkCall → LinkFault → Type 0) (next : Bool → T → Event → T) (effects : Bool → T → Event → List Action) (may_lack : T → Event → Lack → Type 0)
-    (Stands : T → Type 0) (Told_first Told_before Told : List Round → Type 0) (t : T) (turns : ℕ) (ran : Ran) → ((l : List Round) → Told_first l → Told_before l) →
+    (Stands : T → Type 0) (Told_first Told_before Told : Option Action → List Round → Type 0) (t : T) (turns : ℕ) (ran : Ran) → ((l : List Round) → Told_first None l → Told_before None l) →
     RunOver may_fail next effects may_lack Stands Told_before Told t turns ran →
     RunOver (with_start may_fail) next effects may_lack Stands Told_first Told t turns ran
 over_started may_fail next effects may_lack Stands Told_first Told_before Told t turns ran first r = record {
   entries = r.entries;
   rounds = r.rounds;
+  part = r.part;
   may = r.may;
   stands = r.stands;
   told = λ before is. r.told before (first before is);
   came = r.came;
   wires = wires_started may_fail r.rounds r.wires;
-  ended = ended_started may_fail ran.outcome turns (node.run next effects t r.entries) (given_in r.rounds) r.ended;
+  ended = ended_started may_fail ran.outcome turns (node.run next effects t r.entries) (given_in r.rounds) r.part r.ended;
   events = r.events;
   lost = r.lost;
   refused = r.refused;
@@ -65,15 +66,16 @@ over_started may_fail next effects may_lack Stands Told_first Told_before Told t
 
 -- of no event
 pub over_none : {T : Type 0} (may_fail : LinkCall → LinkFault → Type 0) (next : Bool → T → Event → T) (effects : Bool → T → Event → List Action) (may_lack : T → Event → Lack → Type 0)
-    (Stands : T → Type 0) (Told_before Told : List Round → Type 0) (t : T) (turns : ℕ) (ran : Ran) → Stands t →
-    ((l : List Round) → Told_before l → Told l) → Ends may_fail ran.outcome turns [] [] → ran.events ≡ 0 → ran.lost ≡ 0 → ran.refused ≡ 0 →
+    (Stands : T → Type 0) (Told_before Told : Option Action → List Round → Type 0) (t : T) (turns : ℕ) (ran : Ran) → Stands t →
+    ((l : List Round) → Told_before None l → Told None l) → Ends may_fail ran.outcome turns [] [] None → ran.events ≡ 0 → ran.lost ≡ 0 → ran.refused ≡ 0 →
     RunOver may_fail next effects may_lack Stands Told_before Told t turns ran
 over_none may_fail next effects may_lack Stands Told_before Told t turns ran stands told ended events lost refused = record {
   entries = [];
   rounds = [];
+  part = None;
   may = tt;
   stands = stands;
-  told = λ before is. subst Told (sym (append-nil before)) (told before is);
+  told = λ before is. subst (Told None) (sym (append-nil before)) (told before is);
   came = refl;
   wires = tt;
   ended = ended;
@@ -83,13 +85,14 @@ over_none may_fail next effects may_lack Stands Told_before Told t turns ran sta
 }
 
 -- the same of the server
-pub served_none : (may_fail : LinkCall → LinkFault → Type 0) (t : Table) (Told : List Round → Type 0) (ran : Ran) → Ends may_fail ran.outcome most_turns [] [] → ran.events ≡ 0 → ran.lost ≡ 0 → ran.refused ≡ 0 →
+pub served_none : (may_fail : LinkCall → LinkFault → Type 0) (t : Table) (Told : Option Action → List Round → Type 0) (ran : Ran) → Ends may_fail ran.outcome most_turns [] [] None → ran.events ≡ 0 → ran.lost ≡ 0 → ran.refused ≡ 0 →
     Served may_fail t Told Told ran
 served_none may_fail t Told ran ended events lost refused = record {
   entries = [];
   rounds = [];
+  part = None;
   may = tt;
-  told = λ before is. subst Told (sym (append-nil before)) is;
+  told = λ before is. subst (Told None) (sym (append-nil before)) is;
   came = refl;
   wires = tt;
   ended = ended;
@@ -103,7 +106,7 @@ none_capped : (n : ℕ) → capped n ≡ 0 → n ≡ 0
 none_capped n none = omega (arith, none)
 
 -- of a run
-pub served : {Stands : Table → Type 0} {Told_before Told : List Round → Type 0} (may_fail : LinkCall → LinkFault → Type 0) (t : Table) (ran : Ran) →
+pub served : {Stands : Table → Type 0} {Told_before Told : Option Action → List Round → Type 0} (may_fail : LinkCall → LinkFault → Type 0) (t : Table) (ran : Ran) →
     RunOver may_fail next_table told_of MayLack Stands Told_before Told t most_turns ran → Served may_fail t Told_before Told ran
 served may_fail t ran r =
     let may = may_run t r.entries r.may in
@@ -111,11 +114,12 @@ served may_fail t ran r =
     record {
       entries = entries_of r.entries;
       rounds = r.rounds;
+      part = r.part;
       may = may;
       told = r.told;
       came = r.came ∙ events_same r.entries;
       wires = r.wires;
-      ended = subst (λ outs. Ends may_fail ran.outcome most_turns outs (given_in r.rounds)) (run_same t r.entries) r.ended;
+      ended = subst (λ outs. Ends may_fail ran.outcome most_turns outs (given_in r.rounds) r.part) (run_same t r.entries) r.ended;
       events = r.events ∙ sym (length-map r.entries entry_of);
       lost = r.lost;
       refused = refused;

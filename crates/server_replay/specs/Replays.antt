@@ -11,7 +11,7 @@ use Rattle.vpn_node.specs.declared.outcome.Outcome.{Outcome}
 use Rattle.vpn_node.specs.declared.outcome.Outcome.TheVariants as outcomes
 use Rattle.vpn_node.specs.declared.outcome.Ran.{Ran}
 use Rattle.replay_links.specs.Fronts.{IsFrontOf}
-use Rattle.replay_links.specs.Replay.{Caused, IsPart, IsRefused, MayFail}
+use Rattle.replay_links.specs.Replay.{Caused, IsFront, IsRefused, MayFail}
 use Rattle.replay_links.specs.Schedule.{spells}
 use Rattle.replay_links.specs.declared.end.ReplayEnd.{ReplayEnd}
 use Rattle.replay_links.specs.declared.end.ReplayEnd.TheVariants as ends
@@ -39,16 +39,17 @@ pub record CameFrom (holding : Holding) (events : List Event) (ended : Option Re
   pub spelled : AreSpelled holding is_read text left fault events
   pub cause : Caused holding is_read left fault ended
 
--- a replay over a schedule, and what the output held before and after it: one list of events, with what lacked at each, of which all that is told is what the run of the definitions does from this table on; all effects of that run, or those up to where it broke off, were given, and are the transcript; behind it there may stand a front of a line that the output cut
+-- a replay over a schedule, and what the output held before and after it: one list of events, with what lacked at each, of which all that is told is what the run of the definitions does from this table on; all effects of that run, or those up to where it broke off, were given, and are the transcript; behind it there may stand a front of the next line, where the output cut it
 pub record IsReplay (t : Table) (holding : Holding) (before now : Option (List ℕ)) (ended : Option ReplayEnd) (is_cut : Bool) (ran : Ran) : Type 0 where
   pub entries : List Entry
   pub given : List (List Action)
-  pub part : List ℕ
+  pub part : Option Action
+  pub front : List ℕ
   pub may : MayRun t entries
   pub schedule : CameFrom holding (events_of entries) ended
-  pub outcome : Ends MayFail ran.outcome most_turns (run t entries) given
-  pub cut : IsPart is_cut (length entries) part
-  pub written : now ≡ appended before (transcript given ++ part)
+  pub outcome : Ends MayFail ran.outcome most_turns (run t entries) given part
+  pub cut : IsFront is_cut (length entries) part front
+  pub written : now ≡ appended before (transcript given ++ front)
   pub events : ran.events ≡ length entries
   pub lost : ran.lost ≡ 0
   pub refused : ran.refused ≡ capped (left_out_in t entries)

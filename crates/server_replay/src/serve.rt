@@ -1,6 +1,6 @@
 //! The server over an outside.
 
-ghost use Rattle.std.specs.Prelude.{◌≡◌, ℕ, ◌≤◌, ◌^◌, [], List};
+ghost use Rattle.std.specs.Prelude.{◌≡◌, ℕ, ◌≤◌, ◌^◌, [], List, None};
 ghost use Rattle.ovpn_config.specs.Bounds.{IsBounded};
 ghost use Rattle.vpn_base.specs.Answers.{IfWhy, Rose};
 ghost use Rattle.vpn_base.specs.declared.names.Role.TheVariants as roles;
@@ -43,7 +43,7 @@ fn make_plan(alloc: Global) -> Result<Plan, NoMemory> {
 // What a run comes to whose start was refused.
 fn outcome_of<L: Links>(fault: Or<LinkFault>) -> Outcome
     requires may { IfWhy fault (L.may_fail Starting) }
-    ensures ended { Ends (with_start L.may_fail) result (2 ^ 48) [] [] }
+    ensures ended { Ends (with_start L.may_fail) result (2 ^ 48) [] [] None }
     ensures counted { (before now : LinkFault → ℕ) → IfWhy fault (λ k. Rose (before k) (now k)) → Counted result before now }
 {
     match fault {

@@ -28,7 +28,7 @@ use Rattle.server_table.specs.Sound.{AreOrderly, IsEstablishedAt}
 use Rattle.server_table.proofs.Places.{WasChanged, first_is, get_appended, get_changed, get_last, got_appended, got_changed, none_passes, none_some, some_same}
 use Rattle.server_table.proofs.Sessions.{one_more, session_is}
 use Rattle.server_table.specs.internal.CallsKeepOrder.{CallsKeepOrder}
-use Rattle.server_table.proofs.Kept.{Kept, begins_late}
+use Rattle.server_table.proofs.Kept.{Kept, begins_late, plain_late}
 use Rattle.server_table.proofs.Keeps.{acted_kept, all_mapped, here_at}
 use Rattle.server_table.proofs.Settled.{Finished, Settled, is_past, past_done, refusal_settled}
 use Rattle.server_table.proofs.KeptControl.{Alone, to_client_settled}
@@ -124,7 +124,7 @@ module _ {a : Table} {k : ℕ} where
           remote = still.remote;
           here = still.here;
         };
-        late = is.late;
+        plain = is.plain;
       }
 
 module _ (calls : CallsKeepOrder) {a : Table} {k : ℕ} where
@@ -181,7 +181,7 @@ module _ (calls : CallsKeepOrder) {a : Table} {k : ℕ} where
       let o = session_begun c.table draw in
       to_client_settled calls r (length c.table.clients) (opened_for d.from c o)
       (λ x here none. new_alone c d.from (sid_of r.packet) o nobody x here)
-      (inr (opened_past d.from draw c is.late))
+      (inr (opened_past d.from draw c (plain_late c.effects is.plain)))
       (opened_kept calls d.from c o
       (calls.begins Server (server_wraps c.table) (own_sid draw) c.table.settings.timers (record { 0 = c.table.connections }) c.table.moment) is)
 

@@ -1,5 +1,5 @@
 -- Changes of a client that keep where it is found, and the rows of the route table.
-use Rattle.std.proofs.Common.{◌≡◌, ℕ, Bool, true, false, not, List, [], ◌∷◌, is_some, Option, Some, None, refl, sym, ap, ◌∙◌, subst, inl, inr}
+use Rattle.std.proofs.Common.{◌≡◌, ℕ, Bool, true, false, List, [], ◌∷◌, is_some, Option, Some, None, refl, sym, ap, ◌∙◌, subst, inl, inr}
 use Rattle.std.specs.Prelude.{◌⊎◌, ◌&&◌, slice_get, if◌then◌else◌}
 use Rattle.std.specs.List.{AllByRecursion}
 use Rattle.vpn_base.specs.declared.address.Addr.{Addr}
@@ -16,7 +16,7 @@ use Rattle.server_table.specs.Courses.{Course, acted, did}
 use Rattle.server_table.specs.Sound.{AreRowsOf, IsEstablishedAt}
 use Rattle.server_table.proofs.Places.{none_some, some_same}
 use Rattle.server_table.proofs.Sessions.{changed_back, shadowed}
-use Rattle.server_table.proofs.Kept.{Changes, Kept, KeptParts, altered, done_kept, is_refusing, late_actions, went_changed}
+use Rattle.server_table.proofs.Kept.{Changes, Kept, KeptParts, altered, done_kept, is_plain, plain_actions, went_changed}
 
 -- ---- rows
 
@@ -102,15 +102,15 @@ module _ {a : Table} {k : ℕ} where
       KeptParts a k m clients rows done → KeptParts a k m (changed_at n f clients) rows done
   keeps_kept {rows = rows} n f keeps is = keeps_with rows n f keeps (λ all. all) is
 
-  -- one effect more, that is no refusal
-  pub did_kept : (action : Action) (c : Course) → not (is_refusing action) ≡ true → Kept a k c → Kept a k (did action c)
-  did_kept action c late is = done_kept (action ∷ []) late is
+  -- one effect more, that is no refusal and does not end the program
+  pub did_kept : (action : Action) (c : Course) → is_plain (action ∷ []) ≡ true → Kept a k c → Kept a k (did action c)
+  did_kept action c plain is = done_kept (action ∷ []) plain is
 
   -- the session of the client of a number, which is here, has made a call
   pub acted_kept : {A : Type 0} (n : ℕ) (x : Client) (o : Outcome A) (c : Course) → client_here c.table n ≡ Some x →
       (IsOrderly x.session.sessions → IsOrderlyFrom x.session.remote o.peer) → Kept a k c → Kept a k (acted n x.address o c)
   acted_kept n x o c here orderly is =
-      done_kept (actions_of o.peer.role o.doings) (late_actions o.peer.role o.doings)
+      done_kept (actions_of o.peer.role o.doings) (plain_actions o.peer.role o.doings)
       (keeps_kept n (λ y. record y { session = o.peer })
       (at_place (λ y. Keeps y (record y { session = o.peer })) c.table.clients n x (here_at c.table n x here).there
       (record { peer_id = refl; here = refl; address = refl; established = λ e. e; session = orderly })) is)

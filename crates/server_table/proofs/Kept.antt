@@ -1,11 +1,12 @@
 -- What a course has kept since its step began.
 use Rattle.std.proofs.Common.{◌≡◌, ◌≤◌, ℕ, zero, suc, ◌^◌, Bool, true, false, not, List, [], ◌∷◌, ◌++◌, length, Some, refl, sym, ap, ◌∙◌, subst, inl, inr}
-use Rattle.std.specs.Prelude.{◌⊎◌, ◌==◌, slice_get}
+use Rattle.std.specs.Prelude.{◌⊎◌, ◌==◌, ◌&&◌, ◌||◌, slice_get}
 use Rattle.std.proofs.lemmas.Bool.{and_from, and_parts}
+use Rattle.std.proofs.lemmas.List.Folds.{list_any-append}
 use Rattle.vpn_base.specs.declared.address.Addr.{Addr}
 use Rattle.vpn_base.specs.declared.names.Role.{Role}
 use Rattle.vpn_base.specs.declared.names.Sid.{Sid}
-use Rattle.vpn_links.specs.Actions.{Action, Report}
+use Rattle.vpn_links.specs.Actions.{Action, Report, is_stop, stops}
 use Rattle.route_table.specs.Owner.{Row}
 use Rattle.peer_table.specs.Places.{changed_at}
 use Rattle.peer_table.specs.Orderly.{IsOrderly, IsOrderlyFrom}
@@ -40,12 +41,52 @@ pub late_append : (done more : List Action) → begins_late done ≡ true → be
 late_append [] more d m = m
 late_append (action ∷ done) more d m = d
 
-pub late_actions : (role : Role) (doings : List Doing) → begins_late (actions_of role doings) ≡ true
-late_actions role [] = refl
-late_actions role (Opens conn ∷ doings) = refl
-late_actions role (Puts conn bytes ∷ doings) = refl
-late_actions role (Writes conn bytes ∷ doings) = refl
-late_actions role (Closes conn ∷ doings) = refl
+either_none : (a b : Bool) → a ≡ false → b ≡ false → (a || b) ≡ false
+either_none false b first second = second
+either_none true b first second = first
+
+-- what ends the program stands in neither part
+pub stops_append : (done more : List Action) → stops done ≡ false → stops more ≡ false → stops (done ++ more) ≡ false
+stops_append done more d m = list_any-append is_stop done more ∙ either_none (stops done) (stops more) d m
+
+-- whether effects begin with no refusal, and none of them ends the program
+abbrev pub is_plain : List Action → Bool
+is_plain actions = begins_late actions && not (stops actions)
+
+-- its two parts
+pub plain_late : (done : List Action) → is_plain done ≡ true → begins_late done ≡ true
+plain_late done plain = (and_parts (begins_late done) (not (stops done)) plain).0
+
+pub plain_onward : (done : List Action) → is_plain done ≡ true → stops done ≡ false
+plain_onward done plain = not_so (stops done) (and_parts (begins_late done) (not (stops done)) plain).1
+  where
+    not_so : (b : Bool) → not b ≡ true → b ≡ false
+    not_so false is = refl
+    not_so true is = sym is
+
+pub plain_from : (done : List Action) → begins_late done ≡ true → stops done ≡ false → is_plain done ≡ true
+plain_from done late onward = and_from (begins_late done) (not (stops done)) late (ap not onward)
+
+-- plain effects, and more that are plain
+pub plain_append : (done more : List Action) → is_plain done ≡ true → is_plain more ≡ true → is_plain (done ++ more) ≡ true
+plain_append done more d m =
+    plain_from (done ++ more) (late_append done more (plain_late done d) (plain_late more m)) (stops_append done more (plain_onward done d) (plain_onward more m))
+
+-- what a session did does not end the program
+pub onward_actions : (role : Role) (doings : List Doing) → stops (actions_of role doings) ≡ false
+onward_actions role [] = refl
+onward_actions role (Opens conn ∷ doings) = onward_actions role doings
+onward_actions role (Puts conn bytes ∷ doings) = onward_actions role doings
+onward_actions role (Writes conn bytes ∷ doings) = onward_actions role doings
+onward_actions role (Closes conn ∷ doings) = onward_actions role doings
+
+-- nor does it begin with a refusal
+pub plain_actions : (role : Role) (doings : List Doing) → is_plain (actions_of role doings) ≡ true
+plain_actions role [] = refl
+plain_actions role (Opens conn ∷ doings) = ap not (onward_actions role doings)
+plain_actions role (Puts conn bytes ∷ doings) = ap not (onward_actions role doings)
+plain_actions role (Writes conn bytes ∷ doings) = ap not (onward_actions role doings)
+plain_actions role (Closes conn ∷ doings) = ap not (onward_actions role doings)
 
 -- ---- the parts of a table of which much is known
 
@@ -68,13 +109,13 @@ abbrev pub steady_of : Table → ℕ × (Bool × ℕ)
 steady_of t = (t.moment, (t.is_stopped, t.events))
 
 -- What was kept since a table: its moment, that it was not stopped, and its count of events; so many clients there are; and if it was sound,
--- all is sound, and each client is there still. What was done does not begin with a refusal.
+-- all is sound, and each client is there still. What was done does not begin with a refusal, and does not end the program.
 pub record KeptParts (a : Table) (k : ℕ) (steady_part : ℕ × (Bool × ℕ)) (clients : List Client) (rows : List Row) (done : List Action) : Type 0 where
   pub steady : steady_part ≡ steady_of a
   pub count : length clients ≡ k
   pub sound : IsSound a → IsSoundOf steady_part.0 clients rows
   pub still : IsSound a → AreStill a.clients clients
-  pub late : begins_late done ≡ true
+  pub plain : is_plain done ≡ true
 
 abbrev pub Kept : Table → ℕ → Course → Type 0
 Kept a k c = KeptParts a k (steady_of c.table) c.table.clients c.table.routes.rows c.effects
@@ -160,16 +201,16 @@ module _ {a : Table} {k : ℕ} where
       owned = owned p;
     };
     still = λ s. changed_still n f a.clients clients changes (is.sound s).orderly (is.still s);
-    late = is.late;
+    plain = is.plain;
   }
 
   -- something more was done
-  pub done_kept : {m : ℕ × (Bool × ℕ)} {clients : List Client} {rows : List Row} {done : List Action} (more : List Action) → begins_late more ≡ true →
+  pub done_kept : {m : ℕ × (Bool × ℕ)} {clients : List Client} {rows : List Row} {done : List Action} (more : List Action) → is_plain more ≡ true →
       KeptParts a k m clients rows done → KeptParts a k m clients rows (done ++ more)
-  done_kept {done = done} more late is = record {
+  done_kept {done = done} more plain is = record {
     steady = is.steady;
     count = is.count;
     sound = is.sound;
     still = is.still;
-    late = late_append done more is.late late;
+    plain = plain_append done more is.plain plain;
   }

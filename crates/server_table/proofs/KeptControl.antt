@@ -30,7 +30,7 @@ use Rattle.server_table.specs.Sound.{AtMostOne}
 use Rattle.server_table.proofs.Places.{some_same}
 use Rattle.server_table.proofs.Sessions.{changed_back, has_session_of, joined, session_is, shadowed}
 use Rattle.server_table.specs.internal.CallsKeepOrder.{CallsKeepOrder}
-use Rattle.server_table.proofs.Kept.{Changes, Kept, altered, done_kept, late_actions, orderly_from}
+use Rattle.server_table.proofs.Kept.{Changes, Kept, altered, done_kept, orderly_from, plain_actions, plain_onward, stops_append}
 use Rattle.server_table.proofs.Keeps.{all_mapped, at_place, did_kept, established_changed, here_at, keeps_kept, keeps_session}
 use Rattle.server_table.proofs.KeptEndings.{turned_kept}
 use Rattle.server_table.proofs.Settled.{MayRefuse, Settled, kept_settled, not_refused, past_append, past_late}
@@ -155,7 +155,7 @@ module _ {a : Table} {k : ℕ} where
   fixed_kept n x i o c here fixed alone is =
       let at = here_at c.table n x here in
       let f : Client → Client = λ y. record y { session = o.peer } in
-      done_kept (actions_of o.peer.role o.doings) (late_actions o.peer.role o.doings)
+      done_kept (actions_of o.peer.role o.doings) (plain_actions o.peer.role o.doings)
       (altered c.table.routes.rows n f
       (at_place (λ y. Changes y (f y)) c.table.clients n x at.there
       (record {
@@ -175,11 +175,13 @@ module _ {a : Table} {k : ℕ} where
       Kept a k (acted n x.address o c) →
       Settled a k (did (Report (notes.Replayed time id)) (acted n x.address o c))
   replay_settled n x o c time id there before (inl same) is = record {
-    kept = record { steady = is.steady; count = is.count; sound = is.sound; still = is.still; late = refl };
+    kept = record { steady = is.steady; count = is.count; sound = is.sound; still = is.still; plain = refl };
+    onward = stops_append (acted n x.address o c).effects (Report (notes.Replayed time id) ∷ []) (plain_onward (acted n x.address o c).effects is.plain) refl;
     refused = λ refused. acted_same n x o c there before ∙ same;
   }
   replay_settled n x o c time id there before (inr past) is = record {
-    kept = record { steady = is.steady; count = is.count; sound = is.sound; still = is.still; late = refl };
+    kept = record { steady = is.steady; count = is.count; sound = is.sound; still = is.still; plain = refl };
+    onward = stops_append (acted n x.address o c).effects (Report (notes.Replayed time id) ∷ []) (plain_onward (acted n x.address o c).effects is.plain) refl;
     refused = λ refused. absurd (false≢true (sym (not_refused (did (Report (notes.Replayed time id)) (acted n x.address o c)).effects (acted n x.address o c).staged
         (past_late (did (Report (notes.Replayed time id)) (acted n x.address o c)).effects
         (past_append (acted n x.address o c).effects (Report (notes.Replayed time id) ∷ []) (past_append c.effects (actions_of o.peer.role o.doings) past)))) ∙ refused));

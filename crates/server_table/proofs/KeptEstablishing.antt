@@ -1,8 +1,10 @@
 -- The establishing of a client keeps what a course keeps.
-use Rattle.std.proofs.Common.{◌≡◌, ℕ, ◌++◌, Bool, true, false, List, [], ◌∷◌, Option, Some, None, refl}
+use Rattle.std.proofs.Common.{◌≡◌, ℕ, ◌++◌, map, Bool, true, false, List, [], ◌∷◌, Option, Some, None, not, ap, refl}
 use Rattle.vpn_base.specs.declared.names.Cause.TheVariants.{PoolEmpty, Replaced}
 use Rattle.vpn_base.specs.declared.names.Conn.{Conn}
 use Rattle.vpn_base.specs.Network.{Network}
+use Rattle.vpn_base.specs.declared.address.Ip4.{Ip4}
+use Rattle.vpn_links.specs.Actions.{stops}
 use Rattle.ovpn_config.specs.declared.settings.Settings.{Settings}
 use Rattle.push_options.specs.Options.{options_of}
 use Rattle.push_options.specs.Parts.{reply_parts}
@@ -12,23 +14,35 @@ use Rattle.peer_table.specs.Places.{changed_at}
 use Rattle.server_table.specs.Table.{Client, Table}
 use Rattle.server_table.specs.Lookups.{cid, client_here, established_named}
 use Rattle.server_table.specs.Courses.{Course}
-use Rattle.server_table.specs.Establishing.{Leased, address_by, ccd_in, client_established, establishing, establishing_lines, established_at, established_for, established_with, name_in, networks_of, plan_of, replaced, replaced_unless, reply, with_address, written}
+use Rattle.server_table.specs.Establishing.{Leased, address_by, ccd_in, client_established, establishing, establishing_lines, established_at, established_for, established_with, name_in, network_line, networks_of, plan_of, replaced, replaced_unless, reply, with_address, written}
 use Rattle.server_table.specs.Sound.{AreRowsOf, IsEstablishedAt}
 use Rattle.server_table.proofs.Places.{get_changed}
 use Rattle.server_table.specs.internal.CallsKeepOrder.{CallsKeepOrder}
-use Rattle.server_table.proofs.Kept.{Kept, begins_late, done_kept, late_append, orderly_from}
+use Rattle.server_table.proofs.Kept.{Kept, done_kept, is_plain, orderly_from, plain_append}
 use Rattle.server_table.proofs.Keeps.{here_at, keeps_with}
 use Rattle.server_table.proofs.KeptEndings.{ended_kept}
 
 -- ---- what is told
 
-late_written : (conn : Conn) (parts : List (List ℕ)) → begins_late (written conn parts) ≡ true
-late_written conn [] = refl
-late_written conn (part ∷ parts) = refl
+onward_written : (conn : Conn) (parts : List (List ℕ)) → stops (written conn parts) ≡ false
+onward_written conn [] = refl
+onward_written conn (part ∷ parts) = onward_written conn parts
 
-pub late_reply : (s : Settings) (x : Client) (l : Leased) (conn : Conn) → begins_late (reply s x l conn) ≡ true
+plain_written : (conn : Conn) (parts : List (List ℕ)) → is_plain (written conn parts) ≡ true
+plain_written conn [] = refl
+plain_written conn (part ∷ parts) = ap not (onward_written conn parts)
+
+-- the reply with the options is no refusal and does not end the program
+pub plain_reply : (s : Settings) (x : Client) (l : Leased) (conn : Conn) → is_plain (reply s x l conn) ≡ true
 unfolding reply
-late_reply s x l conn = late_written conn (reply_parts (options_of (plan_of s x l)))
+plain_reply s x l conn = plain_written conn (reply_parts (options_of (plan_of s x l)))
+
+onward_networks : (n : ℕ) (networks : List Network) → stops (map (network_line n) networks) ≡ false
+onward_networks n [] = refl
+onward_networks n (network ∷ networks) = onward_networks n networks
+
+plain_lines : (n : ℕ) (x : Client) (a : Ip4) → is_plain (establishing_lines n x a) ≡ true
+plain_lines n x a = ap not (onward_networks n (ccd_in x.file).iroutes)
 
 -- ---- its rows
 
@@ -46,7 +60,7 @@ module _ (calls : CallsKeepOrder) {a : Table} {k : ℕ} where
       let f : Client → Client = with_address l.0 c.table.moment in
       let at = here_at c.table n x here in
       done_kept (reply c.table.settings x l conn ++ establishing_lines n x l.0)
-      (late_append (reply c.table.settings x l conn) (establishing_lines n x l.0) (late_reply c.table.settings x l conn) refl)
+      (plain_append (reply c.table.settings x l conn) (establishing_lines n x l.0) (plain_reply c.table.settings x l conn) (plain_lines n x l.0))
       (keeps_with (c.table.routes.rows ++ rows_of (cid n) (networks_of x l.0)) n f
       (λ y there. record { peer_id = refl; here = refl; address = refl; established = λ e. refl; session = orderly_from y.session })
       (λ all. rows_appended (changed_at n f c.table.clients) c.table.routes.rows (rows_of (cid n) (networks_of x l.0)) all

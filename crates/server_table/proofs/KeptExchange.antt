@@ -18,7 +18,7 @@ use Rattle.server_table.specs.internal.CallsKeepOrder.{CallsKeepOrder}
 use Rattle.server_table.proofs.Kept.{Kept, done_kept, orderly_from}
 use Rattle.server_table.proofs.Keeps.{acted_kept, did_kept, keeps_kept}
 use Rattle.server_table.proofs.KeptEndings.{turned_kept}
-use Rattle.server_table.proofs.KeptEstablishing.{client_established_kept, late_reply}
+use Rattle.server_table.proofs.KeptEstablishing.{client_established_kept, plain_reply}
 
 module _ (calls : CallsKeepOrder) {a : Table} {k : ℕ} where
   -- ---- messages
@@ -27,7 +27,7 @@ module _ (calls : CallsKeepOrder) {a : Table} {k : ℕ} where
   requested_as_kept n conn x c None is = client_established_kept calls n conn c is
   requested_as_kept n conn x c (Some e) is =
       let l = leased_to c.table.settings (ccd_in x.file).address e in
-      done_kept (reply c.table.settings x l conn) (late_reply c.table.settings x l conn) is
+      done_kept (reply c.table.settings x l conn) (plain_reply c.table.settings x l conn) is
 
   requested_kept : (n : ℕ) (conn : Conn) (c : Course) (x : Option Client) → Kept a k c → Kept a k (requested n conn c x)
   requested_kept n conn c None is = is

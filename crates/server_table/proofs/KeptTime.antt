@@ -1,5 +1,5 @@
 -- Time that passes keeps what a course keeps.
-use Rattle.std.proofs.Common.{◌≡◌, ℕ, zero, suc, Bool, true, false, List, [], ◌∷◌, length, Option, Some, None, refl}
+use Rattle.std.proofs.Common.{◌≡◌, ℕ, zero, suc, Bool, true, false, List, [], ◌∷◌, length, Option, Some, None, not, ap, refl}
 use Rattle.vpn_links.specs.Actions.{Action}
 use Rattle.peer_table.specs.declared.outcomes.Turn.{Turn}
 use Rattle.peer_table.specs.Orderly.{IsOrderly, IsOrderlyFrom}
@@ -12,18 +12,18 @@ use Rattle.server_table.specs.Endings.{turned}
 use Rattle.server_table.specs.DataDatagrams.{ping}
 use Rattle.server_table.specs.Time.{client_ticked, clients_ticked, count_line_if, count_lines, counts_are_due, is_counted, ping_is_due, pinged, pinged_if, tick, tick_acted, tick_for, ticking_for, told_counts}
 use Rattle.server_table.specs.internal.CallsKeepOrder.{CallsKeepOrder}
-use Rattle.server_table.proofs.Kept.{Kept, begins_late, done_kept, orderly_from}
+use Rattle.server_table.proofs.Kept.{Kept, done_kept, is_plain, orderly_from, plain_onward}
 use Rattle.server_table.proofs.Keeps.{acted_kept}
 use Rattle.server_table.proofs.KeptEndings.{turned_kept}
 use Rattle.server_table.proofs.KeptPackets.{sealed_kept}
 
-late_line_if : (n : ℕ) (x : Client) (lines : List Action) (b : Bool) → begins_late lines ≡ true → begins_late (count_line_if n x lines b) ≡ true
-late_line_if n x lines true late = refl
-late_line_if n x lines false late = late
+plain_line_if : (n : ℕ) (x : Client) (lines : List Action) (b : Bool) → is_plain lines ≡ true → is_plain (count_line_if n x lines b) ≡ true
+plain_line_if n x lines true plain = ap not (plain_onward lines plain)
+plain_line_if n x lines false plain = plain
 
-late_lines : (n : ℕ) (clients : List Client) → begins_late (count_lines n clients) ≡ true
-late_lines n [] = refl
-late_lines n (x ∷ clients) = late_line_if n x (count_lines (suc n) clients) (is_counted x) (late_lines (suc n) clients)
+plain_lines : (n : ℕ) (clients : List Client) → is_plain (count_lines n clients) ≡ true
+plain_lines n [] = refl
+plain_lines n (x ∷ clients) = plain_line_if n x (count_lines (suc n) clients) (is_counted x) (plain_lines (suc n) clients)
 
 module _ (calls : CallsKeepOrder) {a : Table} {k : ℕ} where
   pinged_if_kept : (n : ℕ) (c : Course) (b : Bool) → Kept a k c → Kept a k (pinged_if n c b)
@@ -57,7 +57,7 @@ module _ (calls : CallsKeepOrder) {a : Table} {k : ℕ} where
 
   told_counts_kept : (c : Course) (b : Bool) → Kept a k c → Kept a k (told_counts c b)
   told_counts_kept c false is = is
-  told_counts_kept c true is = done_kept (count_lines 0 c.table.clients) (late_lines 0 c.table.clients) is
+  told_counts_kept c true is = done_kept (count_lines 0 c.table.clients) (plain_lines 0 c.table.clients) is
 
   pub tick_kept : (c : Course) → Kept a k c → Kept a k (tick c)
   unfolding tick

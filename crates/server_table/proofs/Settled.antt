@@ -2,16 +2,17 @@
 use Rattle.std.proofs.Common.{◌≡◌, ℕ, suc, Bool, true, false, not, List, [], ◌∷◌, ◌++◌, map, refl, sym, ◌∙◌}
 use Rattle.std.specs.Prelude.{◌⊎◌}
 use Rattle.std.proofs.lemmas.Bool.{false≢true, not-true}
-use Rattle.vpn_links.specs.Actions.{Action, Report, on_wire}
+use Rattle.vpn_links.specs.Actions.{Action, Report, on_wire, stops}
 use Rattle.vpn_links.specs.declared.notes.Note.{Note}
 use Rattle.server_table.specs.Table.{Table}
 use Rattle.server_table.specs.Courses.{Course, Staged, outs, reported}
 use Rattle.server_table.specs.Refusals.{is_refused, is_refusing_note}
-use Rattle.server_table.proofs.Kept.{Kept, KeptParts, begins_late, is_refusing, steady_of}
+use Rattle.server_table.proofs.Kept.{Kept, KeptParts, begins_late, is_refusing, plain_late, plain_onward, steady_of, stops_append}
 
--- all is kept, and where it was refused nothing has changed
+-- all is kept, nothing that was done ends the program, and where it was refused nothing has changed
 pub record Settled (a : Table) (k : ℕ) (c : Course) : Type 0 where
   pub kept : KeptParts a k (steady_of c.table) c.table.clients c.table.routes.rows []
+  pub onward : stops c.effects ≡ false
   pub refused : is_refused (outs c) ≡ true → c.table ≡ a
 
 -- the same where a client may have been admitted
@@ -27,6 +28,14 @@ not_refused (Report note ∷ []) [] late = not-true (is_refusing_note note) late
 not_refused (Report note ∷ []) (s ∷ staged) late = refl
 not_refused (Report note ∷ action ∷ done) staged late = refl
 not_refused (action ∷ done) staged late = refl
+
+-- datagrams end nothing
+pub onward_outs : (done : List Action) (staged : List Staged) → stops done ≡ false → stops (done ++ map (λ (s : Staged). on_wire s.datagram) staged) ≡ false
+onward_outs done staged onward = stops_append done (map (λ (s : Staged). on_wire s.datagram) staged) onward (wires staged)
+  where
+    wires : (staged : List Staged) → stops (map (λ (s : Staged). on_wire s.datagram) staged) ≡ false
+    wires [] = refl
+    wires (s ∷ staged) = wires staged
 
 -- whether something was done that is no refusal
 abbrev pub is_past : List Action → Bool
@@ -53,12 +62,14 @@ MayRefuse a c = (c.table ≡ a) ⊎ (is_past c.effects ≡ true)
 module _ {a : Table} {k : ℕ} where
   pub kept_settled : (c : Course) → Kept a k c → Settled a k c
   kept_settled c is = record {
-    kept = record { steady = is.steady; count = is.count; sound = is.sound; still = is.still; late = refl };
-    refused = λ refused. absurd (false≢true (sym (not_refused c.effects c.staged is.late) ∙ refused));
+    kept = record { steady = is.steady; count = is.count; sound = is.sound; still = is.still; plain = refl };
+    onward = plain_onward c.effects is.plain;
+    refused = λ refused. absurd (false≢true (sym (not_refused c.effects c.staged (plain_late c.effects is.plain)) ∙ refused));
   }
 
   pub refusal_settled : (note : Note) (c : Course) → c.table ≡ a → Kept a k c → Settled a k (reported note c)
   refusal_settled note c same is = record {
-    kept = record { steady = is.steady; count = is.count; sound = is.sound; still = is.still; late = refl };
+    kept = record { steady = is.steady; count = is.count; sound = is.sound; still = is.still; plain = refl };
+    onward = stops_append c.effects (Report note ∷ []) (plain_onward c.effects is.plain) refl;
     refused = λ refused. same;
   }

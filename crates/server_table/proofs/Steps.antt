@@ -4,7 +4,7 @@ use Rattle.std.specs.Prelude.{◌⊎◌, ◌||◌, codes, nat_le}
 use Rattle.std.proofs.lemmas.Bool.{false≢true}
 use Rattle.vpn_base.specs.declared.names.Draw.{Draw}
 use Rattle.vpn_base.specs.declared.names.Malformed.{Malformed}
-use Rattle.vpn_links.specs.Actions.{Report, Say}
+use Rattle.vpn_links.specs.Actions.{Report, Say, stops}
 use Rattle.vpn_links.specs.declared.events.Event.{Event}
 use Rattle.vpn_links.specs.declared.events.Kind.{Kind}
 use Rattle.vpn_links.specs.declared.events.Kind.TheVariants.{Datagram, EngineText, EnginePlain, EngineUp, EngineDown, DeviceIn, DeviceReady, File, Line, Tick, Halt}
@@ -32,7 +32,7 @@ use Rattle.server_table.proofs.KeptEngine.{down_settled, engine_settled, file_se
 use Rattle.server_table.proofs.KeptPackets.{device_ready_kept, sealed_kept}
 use Rattle.server_table.proofs.KeptTime.{tick_kept}
 use Rattle.server_table.proofs.Admission.{control_finished}
-use Rattle.server_table.proofs.Settled.{Finished, Settled, kept_settled, refusal_settled}
+use Rattle.server_table.proofs.Settled.{Finished, Settled, kept_settled, onward_outs, refusal_settled}
 use Rattle.server_table.proofs.Places.{none_some}
 use Rattle.server_table.proofs.Stopped.{halted_step, stopped_step}
 
@@ -105,7 +105,7 @@ begun_kept t event = record {
   count = refl;
   sound = parts_sound (begun t event);
   still = λ s. still_same t.clients;
-  late = refl;
+  plain = refl;
 }
 
 begun_sound : (t : Table) (event : Event) → IsSound t → IsSound (begun t event)
@@ -152,6 +152,10 @@ finished_taken t event c (inr s) = settled_taken t event c (suc (length t.client
 finished_refused : (t : Table) (event : Event) (c : Course) → Finished (begun t event) (length t.clients) c → is_refused (outs c) ≡ true → c.table ≡ begun t event
 finished_refused t event c (inl s) refused = s.refused refused
 finished_refused t event c (inr s) refused = s.refused refused
+
+finished_onward : (t : Table) (event : Event) (c : Course) → Finished (begun t event) (length t.clients) c → stops (outs c) ≡ false
+finished_onward t event c (inl s) = onward_outs c.effects c.staged s.onward
+finished_onward t event c (inr s) = onward_outs c.effects c.staged s.onward
 
 -- the end is taken
 halt_taken : (t : Table) (event : Event) → event.kind ≡ Halt → IsTaken t event (halted (course_begun t event)).table
@@ -258,6 +262,18 @@ module _ (calls : CallsKeepOrder) where
       by_kind (inr other) =
           let taken = finished_taken t event (step lacks t event) (taken_finished lacks t event goes other) in
           absurd (false≢true (sym (not_stopped t.is_stopped (nat_le (2 ^ 48) t.events) goes) ∙ (sym (taken.stopped other) ∙ is)))
+
+  -- only the end does Stop
+  pub step_halts : (lacks : Bool) (t : Table) (event : Event) → stops (outs (step lacks t event)) ≡ true → event.kind ≡ Halt
+  step_halts lacks t event is = go (is_over t) refl
+    where
+      by_kind : is_over t ≡ false → (event.kind ≡ Halt) ⊎ (event.kind ≡ Halt → ⊥) → event.kind ≡ Halt
+      by_kind goes (inl halts) = halts
+      by_kind goes (inr other) = absurd (false≢true (sym (finished_onward t event (step lacks t event) (taken_finished lacks t event goes other)) ∙ is))
+
+      go : (b : Bool) → is_over t ≡ b → event.kind ≡ Halt
+      go true over = absurd (false≢true (sym (ap (λ (c : Course). stops (outs c)) (stopped_step lacks t event over)) ∙ is))
+      go false goes = by_kind goes (halt_or_not event.kind)
 
   -- an event is counted at most once
   counted_by : (t : Table) (event : Event) (later : Table) → (later ≡ t) ⊎ IsTaken t event later → later.events ≤ t.events + 1

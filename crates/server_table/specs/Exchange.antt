@@ -1,5 +1,5 @@
 -- A client's key exchange, and the messages behind it.
-use Rattle.std.specs.Prelude.{ℕ, zero, suc, ◌&&◌, is_none, Bool, true, false, List, [], ◌∷◌, length, codes, Option, Some, None}
+use Rattle.std.specs.Prelude.{ℕ, zero, suc, ◌&&◌, is_none, Bool, true, false, List, [], ◌∷◌, codes, Option, Some, None}
 use Rattle.std.specs.Str.{bytes_eq}
 use Rattle.vpn_base.specs.declared.names.Cipher.{Cipher}
 use Rattle.vpn_base.specs.declared.names.Conn.{Conn}

@@ -3,7 +3,7 @@
 ghost use Rattle.std.specs.Prelude.{◌≡◌, ◌≤◌, ◌+◌, ◌^◌, ℕ, Bool, true, false, List, [], ◌∷◌, length, map, slice_get, Option, Some, None};
 ghost use Rattle.ovpn_config.specs.declared.settings.Settings.{Settings};
 ghost use Rattle.vpn_base.specs.declared.names.Cause.{Cause};
-ghost use Rattle.vpn_links.specs.Actions.{Stop};
+ghost use Rattle.vpn_links.specs.Actions.{Stop, stops};
 ghost use Rattle.vpn_links.specs.declared.events.Event.{Event};
 ghost use Rattle.vpn_links.specs.declared.events.Kind.TheVariants.{Halt};
 ghost use Rattle.peer_table.specs.KeySessions.{is_open};
@@ -32,11 +32,12 @@ pub fn a_stopped_server_stays()
     ensures outs { (t : Table) (entries : List Entry) → is_over t ≡ true → MayRun t entries → run t entries ≡ map (λ entry. []) entries }
 {}
 
-/// The end stops a server that takes events, does nothing else, and is told; nothing else stops it. A server
-/// counts each event at most once.
+/// The end stops a server that takes events, does nothing else, and is told; nothing else stops it, nor does
+/// anything else end the program. A server counts each event at most once.
 pub fn only_the_end_stops()
     ensures told { (lacks : Bool) (t : Table) (event : Event) → is_over t ≡ false → event.kind ≡ Halt → outs (step lacks t event) ≡ Stop ∷ [] }
     ensures only { (lacks : Bool) (t : Table) (event : Event) → is_over t ≡ false → (step lacks t event).table.is_stopped ≡ true → event.kind ≡ Halt }
+    ensures stop { (lacks : Bool) (t : Table) (event : Event) → stops (outs (step lacks t event)) ≡ true → event.kind ≡ Halt }
     ensures counted { (lacks : Bool) (t : Table) (event : Event) → (step lacks t event).table.events ≤ t.events + 1 }
 {
     calls_keep_order();

@@ -1,5 +1,6 @@
 -- What a step of a core does to the outside, without where its bytes lie in memory.
 use Rattle.std.specs.Prelude.{◌≡◌, ℕ, ◌+◌, ◌≤◌, Bool, true, false, List, [], ◌∷◌, length, Option}
+use Rattle.std.specs.List.{list_any}
 use Rattle.vpn_base.specs.declared.names.Cid.{Cid}
 use Rattle.vpn_base.specs.declared.names.Conn.{Conn}
 use Rattle.vpn_base.specs.declared.names.Role.{Role}
@@ -47,6 +48,15 @@ IsPlain _ = Unit {0}
 abbrev pub is_wire : Action → Bool
 is_wire (Wire to bytes) = true
 is_wire _ = false
+
+-- whether it ends the program
+abbrev pub is_stop : Action → Bool
+is_stop Stop = true
+is_stop _ = false
+
+-- whether one of these ends the program
+abbrev pub stops : List Action → Bool
+stops actions = list_any is_stop actions
 
 -- the bytes that it carries
 abbrev pub carried_bytes : Action → List ℕ

@@ -1,5 +1,5 @@
 -- What came from the outside and what was given to it, in order.
-use Rattle.std.specs.Prelude.{◌≤◌, Bool, true, false, List, [], ◌∷◌, ◌++◌, length, Result, Ok, Err}
+use Rattle.std.specs.Prelude.{◌≤◌, Bool, true, false, List, [], ◌∷◌, ◌++◌, length, Option, Some, None, Result, Ok, Err}
 use Rattle.vpn_base.specs.declared.errors.Or.{Or}
 use Rattle.vpn_base.specs.declared.errors.Or.TheVariants.{Why}
 use Rattle.vpn_links.specs.declared.events.Event.{Event}
@@ -34,6 +34,12 @@ abbrev pub after_give : {A : Type 0} → Result A (Or LinkFault) → List Round 
 after_give (Ok x) rounds action = gave rounds (record { action = action; is_lost = false })
 after_give (Err (Why Wire)) rounds action = gave rounds (record { action = action; is_lost = true })
 after_give (Err e) rounds action = rounds
+
+-- the effect of which only a part was taken, by the same: one that was not given, of which nothing or a front may have been taken
+abbrev pub part_taken : {A : Type 0} → Result A (Or LinkFault) → Action → Option Action
+part_taken (Ok x) action = None
+part_taken (Err (Why Wire)) action = None
+part_taken (Err e) action = Some action
 
 -- a datagram has at most 65,536 bytes
 abbrev pub IsOfLine : Kind → Type 0

@@ -1,11 +1,11 @@
 //! The outside of a core: where its events come from and where its effects go.
 
-ghost use Rattle.std.specs.Prelude.{◌≡◌, ℕ, ◌≤◌, List, IfOk, IfErr, OnOk, OnErr, Err, IsTrue};
+ghost use Rattle.std.specs.Prelude.{◌≡◌, ℕ, ◌≤◌, List, Option, None, IfOk, IfErr, OnOk, OnErr, Err, IsTrue};
 ghost use Rattle.vpn_base.specs.Answers.{Rose, IfWhy};
 ghost use Rattle.vpn_base.specs.declared.errors.Or.{Or};
-ghost use Rattle.vpn_links.specs.Actions.{action, is_wire};
+ghost use Rattle.vpn_links.specs.Actions.{Action, action, is_wire};
 ghost use Rattle.vpn_links.specs.Faults.{Asking, Giving, LinkCall, Starting};
-ghost use Rattle.vpn_links.specs.Rounds.{Round, IsOfLine, came, after_give};
+ghost use Rattle.vpn_links.specs.Rounds.{Round, IsOfLine, came, after_give, part_taken};
 ghost use Rattle.vpn_links.specs.Starts.{Started, started_with};
 
 use crate::effects::Effect;
@@ -107,9 +107,9 @@ pub trait Links {
     /// The plan that it was started with, where that is told.
     ghost started: { Self → Started };
 
-    /// The events that it gave, each with the effects given to it since, where that is told: where it is not,
-    /// it stands for no list.
-    ghost stands: { Self → List Round → Type 0 };
+    /// The effect of which it took only a part at last, if there is one, and the events that it gave before, each with
+    /// the effects given to it since, where that is told: where it is not, it stands for no list.
+    ghost stands: { Self → Option Action → List Round → Type 0 };
 
     /// How often each part failed.
     ghost faults: { Self → LinkFault → ℕ };
@@ -121,7 +121,7 @@ pub trait Links {
     fn start(&mut self, plan: &Plan) -> Result<(), Or<LinkFault>>
         ensures started { OnOk result (started self.new ≡ started_with (started self.old) plan.now) }
         ensures refused { OnErr result (started self.new ≡ started self.old) }
-        ensures rounds { (l : List Round) → stands self.old l → stands self.new l }
+        ensures rounds { (l : List Round) → stands self.old None l → stands self.new None l }
         ensures failed { IfErr result (λ e. IfWhy e (λ k. Rose (faults self.old k) (faults self.new k))) }
         ensures may { IfErr result (λ e. IfWhy e (may_fail Starting)) }
         ensures never_falls { (k : LinkFault) → faults self.old k ≤ faults self.new k }
@@ -130,8 +130,8 @@ pub trait Links {
     /// Gives the next event: a Tick if nothing came, and Halt at the end. After a refusal `into` may be any
     /// event.
     fn next(&mut self, into: &mut Event) -> Result<(), Or<LinkFault>>
-        ensures given { OnOk result ((l : List Round) → stands self.old l → stands self.new (came l into.new)) }
-        ensures refused { OnErr result ((l : List Round) → stands self.old l → stands self.new l) }
+        ensures given { OnOk result ((l : List Round) → stands self.old None l → stands self.new None (came l into.new)) }
+        ensures refused { OnErr result ((l : List Round) → stands self.old None l → stands self.new None l) }
         ensures datagram { OnOk result (IsOfLine into.new.kind) }
         ensures never_wire { result ≡ Err (Or.Why LinkFault.Wire) → ⊥ }
         ensures started { started self.new ≡ started self.old }
@@ -141,9 +141,9 @@ pub trait Links {
         ensures origin { origin_of self.new ≡ origin_of self.old };
 
     /// Takes an effect of the last event. A datagram that the line does not take is lost, and the answer is
-    /// Wire.
+    /// Wire. After another refusal a part of the effect may have been taken; of calls behind that nothing is told.
     fn give(&mut self, e: &Effect<'_>) -> Result<(), Or<LinkFault>>
-        ensures given { (l : List Round) → stands self.old l → stands self.new (after_give result l (action e.now)) }
+        ensures given { (l : List Round) → stands self.old None l → stands self.new (part_taken result (action e.now)) (after_give result l (action e.now)) }
         ensures wire { result ≡ Err (Or.Why LinkFault.Wire) → IsTrue (is_wire (action e.now)) }
         ensures started { started self.new ≡ started self.old }
         ensures failed { IfErr result (λ e. IfWhy e (λ k. Rose (faults self.old k) (faults self.new k))) }

@@ -274,7 +274,7 @@ impl Links for MemLinks {
 
     ghost started = { λ m. started_of m.plan };
 
-    ghost stands = { λ m l. l ≡ rounds_of m };
+    ghost stands = { λ m _ l. l ≡ rounds_of m };
 
     ghost faults = { λ m k. count_of m.faults k };
 

@@ -1,8 +1,8 @@
 -- What a turn comes to, and a run.
-use Rattle.std.proofs.Common.{◌≡◌, ℕ, ◌+◌, ◌<◌, Bool, true, false, List, [], ◌∷◌, ◌++◌, length, take, refl, ap, sym, ◌∙◌, subst, arith, take_all, Some, length-append}
+use Rattle.std.proofs.Common.{◌≡◌, ℕ, ◌+◌, ◌<◌, Bool, true, false, List, [], ◌∷◌, ◌++◌, length, take, refl, ap, sym, ◌∙◌, subst, arith, take_all, slice_get, Option, Some, None, length-append}
 use Rattle.std.proofs.lemmas.List.{map-append, append-nil}
 use Rattle.std.proofs.Common.{append_assoc}
-use Rattle.vpn_links.specs.Actions.{Action, Contents}
+use Rattle.vpn_links.specs.Actions.{Action, Contents, stops}
 use Rattle.vpn_links.specs.Faults.{Asking, Giving, LinkCall}
 use Rattle.vpn_links.specs.Rounds.{Round, came}
 use Rattle.vpn_links.specs.Steps.{Lack}
@@ -12,10 +12,10 @@ use Rattle.vpn_node.specs.declared.outcome.Outcome.{Outcome}
 use Rattle.vpn_node.specs.declared.outcome.Outcome.TheVariants as outcomes
 use Rattle.vpn_node.specs.declared.outcome.Ran.{Ran}
 use Rattle.vpn_node.specs.declared.run.Tally.{Tally}
-use Rattle.vpn_node.specs.Running.{BrokeOff, Between, Ends, Entry, RunOver, Within, actions_of, after_all, capped, count_last, cut_last, given_in, goes_on, lost_by, lost_of, outs_at, refused_by, refused_lacking, run, stops, stops_last, stops_only_last}
+use Rattle.vpn_node.specs.Running.{BrokeOff, Between, Ends, Entry, RunOver, Within, actions_of, after_all, capped, cut_last, given_in, goes_on, last_of, lost_by, lost_of, outs_at, refused_by, refused_lacking, run, stops_last, stops_only_last}
 use Rattle.vpn_node.specs.internal.Turns.{Gave, GaveFirst, Going, IsBreak, NoEvent, Course, NotAll, TookPart, TookStep, TookTurn, TookWhole, Turned, end_of}
 use Rattle.vpn_node.proofs.Behind.{after_one, may_one, refused_one, run_length, run_one}
-use Rattle.vpn_node.proofs.Lists.{capped_on, counted_last, cut_behind, ends_last, ends_only_last, lost_round, onward_one, wires_round}
+use Rattle.vpn_node.proofs.Lists.{capped_on, cut_behind, ends_last, ends_only_last, last_behind, lost_round, onward_one, wires_round}
 
 -- ---- a turn
 
@@ -42,19 +42,19 @@ took may_fail next effects may_lack Stands Told_before Came Told t event out ref
 
 -- a break came before one of its effects
 pub turn_broken : {T : Type 0} (may_fail : LinkCall → LinkFault → Type 0) (next : Bool → T → Event → T) (effects : Bool → T → Event → List Action) (may_lack : T → Event → Lack → Type 0)
-    (Stands : T → Type 0) (Told_before Came Told : List Round → Type 0) (t : T) (event : Event) (out : Contents) (refused : ℕ) (before now : Tally) (faults_before faults_now : LinkFault → ℕ) (outcome : Outcome) →
-    ((rounds : List Round) → Told_before rounds → Came (came rounds event)) →
+    (Stands : T → Type 0) (Told_before Came Told : Option Action → List Round → Type 0) (t : T) (event : Event) (out : Contents) (refused : ℕ) (before now : Tally) (faults_before faults_now : LinkFault → ℕ) (outcome : Outcome) →
+    ((rounds : List Round) → Told_before None rounds → Came None (came rounds event)) →
     TookStep next effects may_lack Stands t event out refused → Gave may_fail (Some outcome) out.effects Came Told before.lost now.lost →
     now.events ≡ before.events + 1 → now.refused ≡ capped (before.refused + refused) → IsBreak may_fail outcome faults_before faults_now →
     Turned may_fail (Some outcome) next effects may_lack Stands Told_before Told t before now
 turn_broken may_fail next effects may_lack Stands Told_before Came Told t event out refused before now faults_before faults_now outcomes.Stopped comes step gave events counted never = absurd never
 turn_broken may_fail next effects may_lack Stands Told_before Came Told t event out refused before now faults_before faults_now outcomes.TurnsSpent comes step gave events counted never = absurd never
 turn_broken may_fail next effects may_lack Stands Told_before Came Told t event out refused before now faults_before faults_now (outcomes.Fault fault) comes step gave events counted is =
-    NotAll is.1 (took may_fail next effects may_lack Stands Told_before Came Told t event out refused gave.0 before now comes step gave.2 events counted)
-    (subst (λ l. gave.0 < length l) step.holds gave.1)
+    NotAll is.1 (slice_get out.effects gave.0) (took may_fail next effects may_lack Stands (Told_before None) (Came None) (Told (slice_get out.effects gave.0)) t event out refused gave.0 before now comes step gave.2 events counted)
+    (ap (λ l. slice_get l gave.0) step.holds) (subst (λ l. gave.0 < length l) step.holds gave.1)
 turn_broken may_fail next effects may_lack Stands Told_before Came Told t event out refused before now faults_before faults_now outcomes.Memory comes step gave events counted is =
-    NotAll tt (took may_fail next effects may_lack Stands Told_before Came Told t event out refused gave.0 before now comes step gave.2 events counted)
-    (subst (λ l. gave.0 < length l) step.holds gave.1)
+    NotAll tt (slice_get out.effects gave.0) (took may_fail next effects may_lack Stands (Told_before None) (Came None) (Told (slice_get out.effects gave.0)) t event out refused gave.0 before now comes step gave.2 events counted)
+    (ap (λ l. slice_get l gave.0) step.holds) (subst (λ l. gave.0 < length l) step.holds gave.1)
 
 whole_of : {T : Type 0} (may_fail : LinkCall → LinkFault → Type 0) (next : Bool → T → Event → T) (effects : Bool → T → Event → List Action) (may_lack : T → Event → Lack → Type 0)
     (Stands : T → Type 0) (Told_before Came Told : List Round → Type 0) (t : T) (event : Event) (out : Contents) (refused : ℕ) (before now : Tally) (stopping : Bool) →
@@ -70,15 +70,15 @@ whole_of may_fail next effects may_lack Stands Told_before Came Told t event out
 
 -- all of its effects were given
 pub turn_whole : {T : Type 0} (may_fail : LinkCall → LinkFault → Type 0) (next : Bool → T → Event → T) (effects : Bool → T → Event → List Action) (may_lack : T → Event → Lack → Type 0)
-    (Stands : T → Type 0) (Told_before Came Told : List Round → Type 0) (t : T) (event : Event) (out : Contents) (refused : ℕ) (before now : Tally) (stopping : Bool) →
-    ((rounds : List Round) → Told_before rounds → Came (came rounds event)) →
-    TookStep next effects may_lack Stands t event out refused → GaveFirst may_fail (length out.effects) out.effects Came Told before.lost now.lost →
+    (Stands : T → Type 0) (Told_before Came Told : Option Action → List Round → Type 0) (t : T) (event : Event) (out : Contents) (refused : ℕ) (before now : Tally) (stopping : Bool) →
+    ((rounds : List Round) → Told_before None rounds → Came None (came rounds event)) →
+    TookStep next effects may_lack Stands t event out refused → GaveFirst may_fail (length out.effects) out.effects (Came None) (Told None) before.lost now.lost →
     now.events ≡ before.events + 1 → now.refused ≡ capped (before.refused + refused) → stopping ≡ stops out.effects →
     Turned may_fail (end_of stopping) next effects may_lack Stands Told_before Told t before now
 turn_whole may_fail next effects may_lack Stands Told_before Came Told t event out refused before now true comes step gave events counted is =
-    whole_of may_fail next effects may_lack Stands Told_before Came Told t event out refused before now true comes step gave events counted is
+    whole_of may_fail next effects may_lack Stands (Told_before None) (Came None) (Told None) t event out refused before now true comes step gave events counted is
 turn_whole may_fail next effects may_lack Stands Told_before Came Told t event out refused before now false comes step gave events counted is =
-    whole_of may_fail next effects may_lack Stands Told_before Came Told t event out refused before now false comes step gave events counted is
+    whole_of may_fail next effects may_lack Stands (Told_before None) (Came None) (Told None) t event out refused before now false comes step gave events counted is
 
 -- ---- a run
 
@@ -162,19 +162,20 @@ course_on may_fail next effects may_lack Stands_before Stands Begun Before Told 
 
 -- a run has ended
 run_over : {T : Type 0} (may_fail : LinkCall → LinkFault → Type 0) (next : Bool → T → Event → T) (effects : Bool → T → Event → List Action) (may_lack : T → Event → Lack → Type 0)
-    (Stands : T → Type 0) (Begun Told : List Round → Type 0) (t : T) (turns : ℕ) (now : Tally) (outcome : Outcome) (ran : Ran) →
+    (Stands : T → Type 0) (Begun Told : Option Action → List Round → Type 0) (t : T) (turns : ℕ) (now : Tally) (outcome : Outcome) (part : Option Action) (ran : Ran) →
     ran ≡ record { outcome = outcome; events = now.events; lost = now.lost; refused = now.refused } →
-    (c : Course may_fail next effects may_lack Stands Begun Told t now) → Ends may_fail outcome turns (run next effects t c.entries) (given_in c.rounds) →
+    (c : Course may_fail next effects may_lack Stands (Begun None) (Told part) t now) → Ends may_fail outcome turns (run next effects t c.entries) (given_in c.rounds) part →
     RunOver may_fail next effects may_lack Stands Begun Told t turns ran
-run_over may_fail next effects may_lack Stands Begun Told t turns now outcome ran is c ended = record {
+run_over may_fail next effects may_lack Stands Begun Told t turns now outcome part ran is c ended = record {
   entries = c.entries;
   rounds = c.rounds;
+  part = part;
   may = c.may;
   stands = c.stands;
   told = c.told;
   came = c.came;
   wires = c.wires;
-  ended = subst (λ (r : Ran). Ends may_fail r.outcome turns (run next effects t c.entries) (given_in c.rounds)) (sym is) ended;
+  ended = subst (λ (r : Ran). Ends may_fail r.outcome turns (run next effects t c.entries) (given_in c.rounds) part) (sym is) ended;
   events = ap (λ (r : Ran). r.events) is ∙ c.events;
   lost = ap (λ (r : Ran). r.lost) is ∙ c.lost;
   refused = ap (λ (r : Ran). r.refused) is ∙ c.refused;
@@ -182,25 +183,25 @@ run_over may_fail next effects may_lack Stands Begun Told t turns now outcome ra
 
 -- as many events were taken as there may be
 pub turns_spent : {T : Type 0} (may_fail : LinkCall → LinkFault → Type 0) (next : Bool → T → Event → T) (effects : Bool → T → Event → List Action) (may_lack : T → Event → Lack → Type 0)
-    (Stands : T → Type 0) (Begun Told : List Round → Type 0) (t : T) (turns : ℕ) (now : Tally) (ran : Ran) →
+    (Stands : T → Type 0) (Begun Told : Option Action → List Round → Type 0) (t : T) (turns : ℕ) (now : Tally) (ran : Ran) →
     ran ≡ record { outcome = outcomes.TurnsSpent; events = now.events; lost = now.lost; refused = now.refused } →
-    now.events ≡ turns → Going may_fail next effects may_lack Stands Begun Told t now →
+    now.events ≡ turns → Going may_fail next effects may_lack Stands (Begun None) (Told None) t now →
     RunOver may_fail next effects may_lack Stands Begun Told t turns ran
 turns_spent may_fail next effects may_lack Stands Begun Told t turns now ran is spent g =
-    run_over may_fail next effects may_lack Stands Begun Told t turns now outcomes.TurnsSpent ran is g.course
-    (g.whole, g.onward, omega (arith, run_length next effects t g.course.entries, g.course.events, spent))
+    run_over may_fail next effects may_lack Stands Begun Told t turns now outcomes.TurnsSpent None ran is g.course
+    (g.whole, refl, g.onward, omega (arith, run_length next effects t g.course.entries, g.course.events, spent))
 
 broken : {T : Type 0} (may_fail : LinkCall → LinkFault → Type 0) (may_ask may_give : Type 0) (next : Bool → T → Event → T) (effects : Bool → T → Event → List Action) (may_lack : T → Event → Lack → Type 0)
-    (Stands_before Stands : T → Type 0) (Begun Before Told : List Round → Type 0) (t : T) (turns : ℕ) (before now : Tally) (outcome : Outcome) (ran : Ran) →
+    (Stands_before Stands : T → Type 0) (Begun Before Told : Option Action → List Round → Type 0) (t : T) (turns : ℕ) (before now : Tally) (outcome : Outcome) (ran : Ran) →
     ran ≡ record { outcome = outcome; events = now.events; lost = now.lost; refused = now.refused } → before.events < turns →
-    ((outs given : List (List Action)) → BrokeOff may_ask may_give turns outs given → Ends may_fail outcome turns outs given) →
-    (g : Going may_fail next effects may_lack Stands_before Begun Before t before) →
+    ((outs given : List (List Action)) (part : Option Action) → BrokeOff may_ask may_give turns outs given part → Ends may_fail outcome turns outs given part) →
+    (g : Going may_fail next effects may_lack Stands_before (Begun None) (Before None) t before) →
     TookPart may_fail may_ask may_give next effects may_lack Stands Before Told (after_all next t g.course.entries) before now →
     RunOver may_fail next effects may_lack Stands Begun Told t turns ran
 broken may_fail may_ask may_give next effects may_lack Stands_before Stands Begun Before Told t turns before now outcome ran is within ends g (NoEvent may none) =
     let c = g.course in
     let tally = none.same in
-    run_over may_fail next effects may_lack Stands Begun Told t turns now outcome ran is
+    run_over may_fail next effects may_lack Stands Begun Told t turns now outcome None ran is
     (record {
       entries = c.entries;
       rounds = c.rounds;
@@ -213,55 +214,58 @@ broken may_fail may_ask may_give next effects may_lack Stands_before Stands Begu
       lost = ap (λ (k : Tally). k.lost) tally ∙ c.lost;
       refused = ap (λ (k : Tally). k.refused) tally ∙ c.refused;
     })
-    (ends (run next effects t c.entries) (given_in c.rounds) (Between may g.whole g.onward (omega (arith, run_length next effects t c.entries, c.events, within))))
-broken may_fail may_ask may_give next effects may_lack Stands_before Stands Begun Before Told t turns before now outcome ran is within ends g (NotAll may k fewer) =
+    (ends (run next effects t c.entries) (given_in c.rounds) None (Between may g.whole refl g.onward (omega (arith, run_length next effects t c.entries, c.events, within))))
+broken may_fail may_ask may_give next effects may_lack Stands_before Stands Begun Before Told t turns before now outcome ran is within ends g (NotAll may part k at fewer) =
     let c = g.course in
     let outs = run next effects t c.entries in
     let o = outs_at effects (after_all next t c.entries) k.entry in
     let one = run_one next effects t c.entries k.entry in
-    run_over may_fail next effects may_lack Stands Begun Told t turns now outcome ran is
-    (longer may_fail next effects may_lack Stands_before Stands Begun Before Told t before now c k)
-    (ends (run next effects t (c.entries ++ k.entry ∷ [])) (given_in (c.rounds ++ record { event = k.entry.event; effects = k.given } ∷ []))
+    run_over may_fail next effects may_lack Stands Begun Told t turns now outcome part ran is
+    (longer may_fail next effects may_lack Stands_before Stands (Begun None) (Before None) (Told part) t before now c k)
+    (ends (run next effects t (c.entries ++ k.entry ∷ [])) (given_in (c.rounds ++ record { event = k.entry.event; effects = k.given } ∷ [])) part
     (Within may k.n
-    (given_longer may_fail next effects may_lack Stands_before Stands Begun Before Told t before now g k ∙ (sym (cut_behind k.n outs o) ∙ ap (cut_last k.n) (sym one)))
-    (subst (λ n. k.n < n) (sym (counted_last outs o) ∙ ap count_last (sym one)) fewer)
+    (given_longer may_fail next effects may_lack Stands_before Stands (Begun None) (Before None) (Told part) t before now g k ∙ (sym (cut_behind k.n outs o) ∙ ap (cut_last k.n) (sym one)))
+    (at ∙ ap (λ l. slice_get l k.n) (sym (last_behind outs o) ∙ ap last_of (sym one)))
+    (subst (λ l. k.n < length l) (sym (last_behind outs o) ∙ ap last_of (sym one)) fewer)
     (ap stops_only_last one ∙ ends_only_last outs o g.onward)
     (omega (arith, ap length one, length-append outs (o ∷ []), run_length next effects t c.entries, c.events, within))))
 
 -- a turn ended the run
 pub run_ended : {T : Type 0} (may_fail : LinkCall → LinkFault → Type 0) (next : Bool → T → Event → T) (effects : Bool → T → Event → List Action) (may_lack : T → Event → Lack → Type 0)
-    (Stands_before Stands : T → Type 0) (Begun Before Told : List Round → Type 0) (t : T) (turns : ℕ) (before now : Tally) (outcome : Outcome) (ran : Ran) →
+    (Stands_before Stands : T → Type 0) (Begun Before Told : Option Action → List Round → Type 0) (t : T) (turns : ℕ) (before now : Tally) (outcome : Outcome) (ran : Ran) →
     ran ≡ record { outcome = outcome; events = now.events; lost = now.lost; refused = now.refused } → before.events < turns →
-    (g : Going may_fail next effects may_lack Stands_before Begun Before t before) →
+    (g : Going may_fail next effects may_lack Stands_before (Begun None) (Before None) t before) →
     Turned may_fail (Some outcome) next effects may_lack Stands Before Told (after_all next t g.course.entries) before now →
     RunOver may_fail next effects may_lack Stands Begun Told t turns ran
 run_ended may_fail next effects may_lack Stands_before Stands Begun Before Told t turns before now outcomes.Stopped ran is within g k =
     let outs = run next effects t g.course.entries in
     let o = outs_at effects (after_all next t g.course.entries) k.turn.entry in
     let one = run_one next effects t g.course.entries k.turn.entry in
-    run_over may_fail next effects may_lack Stands Begun Told t turns now outcomes.Stopped ran is
-    (longer may_fail next effects may_lack Stands_before Stands Begun Before Told t before now g.course k.turn) (
-      given_whole may_fail next effects may_lack Stands_before Stands Begun Before Told t before now true g k,
+    run_over may_fail next effects may_lack Stands Begun Told t turns now outcomes.Stopped None ran is
+    (longer may_fail next effects may_lack Stands_before Stands (Begun None) (Before None) (Told None) t before now g.course k.turn) (
+      given_whole may_fail next effects may_lack Stands_before Stands (Begun None) (Before None) (Told None) t before now true g k,
+      refl,
       ap stops_last one ∙ ends_last outs o g.onward k.stopping,
       omega (arith, ap length one, length-append outs (o ∷ []), run_length next effects t g.course.entries, g.course.events, within),
     )
 run_ended may_fail next effects may_lack Stands_before Stands Begun Before Told t turns before now outcomes.TurnsSpent ran is within g never = absurd never
 run_ended may_fail next effects may_lack Stands_before Stands Begun Before Told t turns before now (outcomes.Fault fault) ran is within g part =
-    broken may_fail (may_fail Asking fault) (may_fail Giving fault) next effects may_lack Stands_before Stands Begun Before Told t turns before now (outcomes.Fault fault) ran is within (λ outs given off. off) g part
+    broken may_fail (may_fail Asking fault) (may_fail Giving fault) next effects may_lack Stands_before Stands Begun Before Told t turns before now (outcomes.Fault fault) ran is within (λ outs given cut off. off) g part
 run_ended may_fail next effects may_lack Stands_before Stands Begun Before Told t turns before now outcomes.Memory ran is within g part =
-    broken may_fail (Unit {0}) (Unit {0}) next effects may_lack Stands_before Stands Begun Before Told t turns before now outcomes.Memory ran is within (λ outs given off. off) g part
+    broken may_fail (Unit {0}) (Unit {0}) next effects may_lack Stands_before Stands Begun Before Told t turns before now outcomes.Memory ran is within (λ outs given cut off. off) g part
 
 -- no event was taken at all
 pub none_taken : {T : Type 0} (may_fail : LinkCall → LinkFault → Type 0) (next : Bool → T → Event → T) (effects : Bool → T → Event → List Action) (may_lack : T → Event → Lack → Type 0)
-    (Stands : T → Type 0) (Told : List Round → Type 0) (t : T) (turns : ℕ) (ran : Ran) → Stands t →
-    Ends may_fail ran.outcome turns [] [] → ran.events ≡ 0 → ran.lost ≡ 0 → ran.refused ≡ 0 →
+    (Stands : T → Type 0) (Told : Option Action → List Round → Type 0) (t : T) (turns : ℕ) (ran : Ran) → Stands t →
+    Ends may_fail ran.outcome turns [] [] None → ran.events ≡ 0 → ran.lost ≡ 0 → ran.refused ≡ 0 →
     RunOver may_fail next effects may_lack Stands Told Told t turns ran
 none_taken may_fail next effects may_lack Stands Told t turns ran stands ended events lost refused = record {
   entries = [];
   rounds = [];
+  part = None;
   may = tt;
   stands = stands;
-  told = λ before told. subst Told (sym (append-nil before)) told;
+  told = λ before told. subst (Told None) (sym (append-nil before)) told;
   came = refl;
   wires = tt;
   ended = ended;

@@ -1,15 +1,15 @@
 -- Lists with one more element at their end.
-use Rattle.std.proofs.Common.{◌≡◌, ℕ, zero, suc, ◌+◌, Bool, true, false, List, [], ◌∷◌, ◌++◌, length, take, refl, ap, sym, ◌∙◌, arith, slice_get, ◌||◌, ◌&&◌, not, IsTrue, Some, unwrap_or}
+use Rattle.std.proofs.Common.{◌≡◌, ℕ, zero, suc, ◌+◌, Bool, true, false, List, [], ◌∷◌, ◌++◌, take, refl, ap, sym, ◌∙◌, arith, slice_get, ◌||◌, ◌&&◌, not, IsTrue, Some, unwrap_or}
 use Rattle.std.specs.List.{list_any}
 use Rattle.std.proofs.lemmas.List.Folds.{list_any-append}
 use Rattle.std.proofs.lemmas.Option.{none-some}
 use Rattle.std.proofs.lemmas.Bool.{false≢true}
-use Rattle.vpn_links.specs.Actions.{Action}
+use Rattle.vpn_links.specs.Actions.{Action, stops}
 use Rattle.vpn_links.specs.Faults.{LinkCall}
 use Rattle.vpn_links.specs.Rounds.{Given, Round, gave}
 use Rattle.vpn_links.specs.declared.events.Event.{Event}
 use Rattle.vpn_links.specs.declared.links.LinkFault.{LinkFault}
-use Rattle.vpn_node.specs.Running.{OnlyWireLost, OnlyWiresLost, capped, count_last, cut_last, goes_on, is_not_learned, lost_by, lost_of, not_learned, one_if, stops, stops_last, stops_only_last}
+use Rattle.vpn_node.specs.Running.{OnlyWireLost, OnlyWiresLost, capped, cut_last, goes_on, is_not_learned, last_of, lost_by, lost_of, not_learned, one_if, stops_last, stops_only_last}
 
 -- ---- of any list
 
@@ -103,10 +103,10 @@ ends_only_last (p ∷ q ∷ outs) o onward =
     and_of (stops p) (stops_only_last (q ∷ outs ++ o ∷ [])) parts.0 (ends_only_last (q ∷ outs) o parts.1)
 
 -- the last event's effects
-pub counted_last : (outs : List (List Action)) (o : List Action) → count_last (outs ++ o ∷ []) ≡ length o
-counted_last [] o = refl
-counted_last (p ∷ []) o = refl
-counted_last (p ∷ q ∷ outs) o = counted_last (q ∷ outs) o
+pub last_behind : (outs : List (List Action)) (o : List Action) → last_of (outs ++ o ∷ []) ≡ o
+last_behind [] o = refl
+last_behind (p ∷ []) o = refl
+last_behind (p ∷ q ∷ outs) o = last_behind (q ∷ outs) o
 
 -- the first of them
 pub cut_behind : (n : ℕ) (outs : List (List Action)) (o : List Action) → cut_last n (outs ++ o ∷ []) ≡ outs ++ take n o ∷ []

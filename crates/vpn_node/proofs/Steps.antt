@@ -1,5 +1,5 @@
 -- One event: its step, and the giving of its effects.
-use Rattle.std.proofs.Common.{◌≡◌, ℕ, ◌+◌, ◌^◌, ◌<◌, Bool, true, false, List, [], ◌∷◌, ◌++◌, length, refl, ap, sym, ◌∙◌, subst, arith, slice_get, Some}
+use Rattle.std.proofs.Common.{◌≡◌, ℕ, ◌+◌, ◌^◌, ◌<◌, Bool, true, false, List, [], ◌∷◌, ◌++◌, length, refl, ap, sym, ◌∙◌, subst, arith, slice_get, Some, None, Option}
 use Rattle.std.proofs.lemmas.List.{map-append}
 use Rattle.vpn_links.specs.Actions.{Action, Contents}
 use Rattle.vpn_links.specs.Faults.{LinkCall}
@@ -66,17 +66,18 @@ gave_more may_fail i actions action Begun Before Told lost_begun lost_before los
     }
 
 -- an effect was not given
-pub gave_part : (may_fail : LinkCall → LinkFault → Type 0) (i : ℕ) (actions : List Action) (action : Action) (Begun Before Told : List Round → Type 0) (lost_begun lost_before lost : ℕ) →
-    i < length actions → GaveFirst may_fail i actions Begun Before lost_begun lost_before → GaveNone Before Told lost_before lost →
-    (n : ℕ) × (n < length actions) × GaveFirst may_fail n actions Begun Told lost_begun lost
-gave_part may_fail i actions action Begun Before Told lost_begun lost_before lost within g none = (
+pub gave_part : (may_fail : LinkCall → LinkFault → Type 0) (i : ℕ) (actions : List Action) (action : Action) (Begun Before Told : Option Action → List Round → Type 0) (lost_begun lost_before lost : ℕ) →
+    Some action ≡ slice_get actions i → i < length actions → GaveFirst may_fail i actions (Begun None) (Before None) lost_begun lost_before → GaveNone (Before None) (Told (Some action)) lost_before lost →
+    (n : ℕ) × (n < length actions) × GaveFirst may_fail n actions (Begun None) (Told (slice_get actions n)) lost_begun lost
+gave_part may_fail i actions action Begun Before Told lost_begun lost_before lost at within g none = (
   i,
   within,
   record {
     given = g.given;
     same = g.same;
     wires = g.wires;
-    told = λ rounds event before. none.told (rounds ++ record { event = event; effects = g.given } ∷ []) (g.told rounds event before);
+    told = λ rounds event before. subst (λ (part : Option Action). Told part (rounds ++ record { event = event; effects = g.given } ∷ [])) at
+        (none.told (rounds ++ record { event = event; effects = g.given } ∷ []) (g.told rounds event before));
     counted = none.counted ∙ g.counted;
   },
 )

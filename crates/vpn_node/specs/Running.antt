@@ -1,8 +1,8 @@
 -- A run of a core over its outside: events one after the other, of which some may find no memory, and what was given of their effects.
-use Rattle.std.specs.Prelude.{◌≡◌, ℕ, ◌+◌, ◌-◌, ◌^◌, ◌<◌, ◌≤◌, ◌&&◌, min, Bool, true, false, not, List, [], ◌∷◌, ◌++◌, length, take, map, IsTrue}
+use Rattle.std.specs.Prelude.{◌≡◌, ℕ, ◌+◌, ◌-◌, ◌^◌, ◌<◌, ◌≤◌, ◌&&◌, min, Bool, true, false, not, List, [], ◌∷◌, ◌++◌, length, take, map, slice_get, Option, None, IsTrue}
 use Rattle.std.specs.List.{list_any}
 use Rattle.vpn_base.specs.Answers.{Rose}
-use Rattle.vpn_links.specs.Actions.{Action, Report, Stop, is_wire}
+use Rattle.vpn_links.specs.Actions.{Action, Report, is_wire, stops}
 use Rattle.vpn_links.specs.Faults.{Asking, Giving, LinkCall}
 use Rattle.vpn_links.specs.Rounds.{Given, Round}
 use Rattle.vpn_links.specs.Steps.{Lack, LacksAll, LacksHost, LacksNothing}
@@ -132,15 +132,6 @@ abbrev pub OnlyWiresLost : (LinkCall → LinkFault → Type 0) → List Round �
 OnlyWiresLost may [] = Unit {0}
 OnlyWiresLost may (r ∷ rounds) = OnlyWireLost may r.effects × OnlyWiresLost may rounds
 
--- whether an effect ends the program
-abbrev pub is_stop : Action → Bool
-is_stop Stop = true
-is_stop _ = false
-
--- whether the effects of an event end the program
-abbrev pub stops : List Action → Bool
-stops actions = list_any is_stop actions
-
 -- whether the effects of the last event end the program, and those of no event before
 abbrev pub stops_last : List (List Action) → Bool
 stops_last [] = false
@@ -157,11 +148,11 @@ stops_only_last (actions ∷ more ∷ outs) = not (stops actions) && stops_only_
 abbrev pub goes_on : List (List Action) → Bool
 goes_on outs = not (list_any stops outs)
 
--- how many effects the last event has
-abbrev pub count_last : List (List Action) → ℕ
-count_last [] = 0
-count_last (actions ∷ []) = length actions
-count_last (actions ∷ more ∷ outs) = count_last (more ∷ outs)
+-- the effects of the last event
+abbrev pub last_of : List (List Action) → List Action
+last_of [] = []
+last_of (actions ∷ []) = actions
+last_of (actions ∷ more ∷ outs) = last_of (more ∷ outs)
 
 -- of the last event only the first n effects
 abbrev pub cut_last : ℕ → List (List Action) → List (List Action)
@@ -169,34 +160,36 @@ cut_last n [] = []
 cut_last n (actions ∷ []) = take n actions ∷ []
 cut_last n (actions ∷ more ∷ outs) = actions ∷ cut_last n (more ∷ outs)
 
--- a run that a fault or want of memory broke off: in place of a further event, or of an effect of the last one, each only where that may be
-pub data BrokeOff (may_ask may_give : Type 0) (turns : ℕ) (outs given : List (List Action)) : Type 0 where
-  Between : may_ask → given ≡ outs → IsTrue (goes_on outs) → length outs < turns → BrokeOff may_ask may_give turns outs given
-  Within : may_give → (n : ℕ) → given ≡ cut_last n outs → n < count_last outs → IsTrue (stops_only_last outs) → length outs ≤ turns → BrokeOff may_ask may_give turns outs given
+-- a run that a fault or want of memory broke off, each only where that may be: in place of a further event; or of an effect of the last one, of which nothing or a part was taken
+pub data BrokeOff (may_ask may_give : Type 0) (turns : ℕ) (outs given : List (List Action)) (part : Option Action) : Type 0 where
+  Between : may_ask → given ≡ outs → part ≡ None → IsTrue (goes_on outs) → length outs < turns → BrokeOff may_ask may_give turns outs given part
+  Within : may_give → (n : ℕ) → given ≡ cut_last n outs → part ≡ slice_get (last_of outs) n → n < length (last_of outs) → IsTrue (stops_only_last outs) → length outs ≤ turns →
+    BrokeOff may_ask may_give turns outs given part
 
--- how a run of at most so many events ended, over an outside whose calls may answer these faults, by what its events do and what was given of it
-abbrev pub Ends : (LinkCall → LinkFault → Type 0) → Outcome → ℕ → List (List Action) → List (List Action) → Type 0
-Ends may outcomes.Stopped turns outs given = (given ≡ outs) × IsTrue (stops_last outs) × (length outs ≤ turns)
-Ends may outcomes.TurnsSpent turns outs given = (given ≡ outs) × IsTrue (goes_on outs) × (length outs ≡ turns)
-Ends may (outcomes.Fault fault) turns outs given = BrokeOff (may Asking fault) (may Giving fault) turns outs given
-Ends may outcomes.Memory turns outs given = BrokeOff (Unit {0}) (Unit {0}) turns outs given
+-- how a run of at most so many events ended, over an outside whose calls may answer these faults, by what its events do, what was given of it, and the effect of which only a part was taken
+abbrev pub Ends : (LinkCall → LinkFault → Type 0) → Outcome → ℕ → List (List Action) → List (List Action) → Option Action → Type 0
+Ends may outcomes.Stopped turns outs given part = (given ≡ outs) × (part ≡ None) × IsTrue (stops_last outs) × (length outs ≤ turns)
+Ends may outcomes.TurnsSpent turns outs given part = (given ≡ outs) × (part ≡ None) × IsTrue (goes_on outs) × (length outs ≡ turns)
+Ends may (outcomes.Fault fault) turns outs given part = BrokeOff (may Asking fault) (may Giving fault) turns outs given part
+Ends may outcomes.Memory turns outs given part = BrokeOff (Unit {0}) (Unit {0}) turns outs given part
 
 -- a fault that ended a run was counted, and is not of the line
 abbrev pub Caused : Outcome → (LinkFault → ℕ) → (LinkFault → ℕ) → Type 0
 Caused (outcomes.Fault fault) before now = (fault ≡ faults.Wire → ⊥) × Rose (before fault) (now fault)
 Caused _ before now = Unit {0}
 
--- what a run came to, of a core that stood for a table, over an outside whose calls may answer these faults: its events with what lacked, and the rounds that the outside got beyond those that it had
+-- what a run came to, of a core that stood for a table, over an outside whose calls may answer these faults: its events with what lacked, the rounds that the outside got beyond those that it had, and the effect of which it took only a part
 pub record RunOver {T : Type 0} (may_fail : LinkCall → LinkFault → Type 0) (next : Bool → T → Event → T) (effects : Bool → T → Event → List Action) (may_lack : T → Event → Lack → Type 0)
-    (Stands : T → Type 0) (Told_before Told : List Round → Type 0) (t : T) (turns : ℕ) (ran : Ran) : Type 0 where
+    (Stands : T → Type 0) (Told_before Told : Option Action → List Round → Type 0) (t : T) (turns : ℕ) (ran : Ran) : Type 0 where
   pub entries : List Entry
   pub rounds : List Round
+  pub part : Option Action
   pub may : MayRun next may_lack t entries
   pub stands : Stands (after_all next t entries)
-  pub told : (before : List Round) → Told_before before → Told (before ++ rounds)
+  pub told : (before : List Round) → Told_before None before → Told part (before ++ rounds)
   pub came : came_in rounds ≡ events_of entries
   pub wires : OnlyWiresLost may_fail rounds
-  pub ended : Ends may_fail ran.outcome turns (run next effects t entries) (given_in rounds)
+  pub ended : Ends may_fail ran.outcome turns (run next effects t entries) (given_in rounds) part
   pub events : ran.events ≡ length entries
   pub lost : ran.lost ≡ capped (lost_by rounds)
   pub refused : ran.refused ≡ capped (refused_by next effects t entries)

@@ -1,6 +1,6 @@
 //! A core with its outside, before a run, in it and after it.
 
-ghost use Rattle.std.specs.Prelude.{◌≡◌, ◌≤◌, List, IfOk, IfErr};
+ghost use Rattle.std.specs.Prelude.{◌≡◌, ◌≤◌, List, None, IfOk, IfErr};
 ghost use Rattle.vpn_base.specs.Answers.{Rose, IfWhy};
 ghost use Rattle.vpn_links.specs.Faults.{Starting};
 ghost use Rattle.vpn_links.specs.Rounds.{Round};
@@ -75,8 +75,8 @@ impl<M: Machine, L: Links> Node<M, L, Closed> {
         ensures machine_kept { IfErr result (λ e. e.0.machine ≡ self.machine) }
         ensures started { IfOk result (λ n. L.started n.links ≡ started_with (L.started self.links) plan.now) }
         ensures refused { IfErr result (λ e. L.started e.0.links ≡ L.started self.links) }
-        ensures rounds { IfOk result (λ n. (l : List Round) → L.stands self.links l → L.stands n.links l) }
-        ensures rounds_kept { IfErr result (λ e. (l : List Round) → L.stands self.links l → L.stands e.0.links l) }
+        ensures rounds { IfOk result (λ n. (l : List Round) → L.stands self.links None l → L.stands n.links None l) }
+        ensures rounds_kept { IfErr result (λ e. (l : List Round) → L.stands self.links None l → L.stands e.0.links None l) }
         ensures failed { IfErr result (λ e. IfWhy e.1 (λ k. Rose (L.faults self.links k) (L.faults e.0.links k))) }
         ensures may { IfErr result (λ e. IfWhy e.1 (L.may_fail Starting)) }
         ensures never_falls { IfOk result (λ n. (k : LinkFault) → L.faults self.links k ≤ L.faults n.links k) }
@@ -115,7 +115,7 @@ impl<M: Machine, L: Links> Node<M, L, Serving> {
     /// memory is reported and counted in its place, and so is a host that was not learned.
     pub fn run(self, alloc: Global, turns: u64) -> (Node<M, L, Ended>, Ran)
         // For each table that the core stands for: the events of the run with what lacked at them, the effects that
-        // were given of each, and the counts.
+        // were given of each, the one of which only a part was taken, and the counts.
         ensures run { (t : M.Table) → M.stands self.machine t →
             RunOver L.may_fail M.next M.effects M.may_lack (M.stands result.0.machine) (L.stands self.links) (L.stands result.0.links) t turns result.1 }
         ensures failed { Caused result.1.outcome (L.faults self.links) (L.faults result.0.links) }

@@ -1,11 +1,11 @@
 //! The turns of a run.
 
-ghost use Rattle.std.specs.Prelude.{◌≡◌, ℕ, ◌+◌, ◌-◌, ◌^◌, ◌<◌, ◌≤◌, [], ◌∷◌, ◌++◌, IfNone, IfSome, List};
-ghost use Rattle.vpn_links.specs.Actions.{HasRoom, Report, action};
+ghost use Rattle.std.specs.Prelude.{◌≡◌, ℕ, ◌+◌, ◌-◌, ◌^◌, ◌<◌, ◌≤◌, [], ◌∷◌, ◌++◌, IfNone, IfSome, List, None};
+ghost use Rattle.vpn_links.specs.Actions.{HasRoom, Report, action, is_stop, stops};
 ghost use Rattle.vpn_links.specs.Rounds.{IsOfLine, Round};
 ghost use Rattle.vpn_links.specs.declared.links.LinkFault.{LinkFault};
 ghost use Rattle.vpn_links.specs.declared.notes.Note.TheVariants as notes;
-ghost use Rattle.vpn_node.specs.Running.{Caused, Ends, RunOver, is_not_learned, is_stop, not_learned, one_if, stops};
+ghost use Rattle.vpn_node.specs.Running.{Caused, Ends, RunOver, is_not_learned, not_learned, one_if};
 ghost use Rattle.vpn_node.specs.internal.Turns.{Gave, GaveOne, IsBreak, TookStep, Turned, break_of, end_of};
 
 use crate::outcome::{Outcome, Ran};
@@ -197,7 +197,7 @@ fn ran(outcome: Outcome, tally: Tally) -> Ran
 
 // What a run comes to that finds no memory for an outbox.
 fn end_at_once<L: Links>(turns: u64) -> Ran
-    ensures ended { Ends L.may_fail result.outcome turns [] [] }
+    ensures ended { Ends L.may_fail result.outcome turns [] [] None }
     ensures none { (result.events ≡ 0) × (result.lost ≡ 0) × (result.refused ≡ 0) }
     ensures uncaused { (before now : LinkFault → ℕ) → Caused result.outcome before now }
 {

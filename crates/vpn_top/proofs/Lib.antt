@@ -5,5 +5,6 @@ pub mod Answers
 mod Fronts
 mod Checks
 mod CheckEnds
+mod Transcripts
 mod Replays
 mod ReplayEnds

@@ -1,6 +1,6 @@
 -- How commands end that read a configuration, where everything is told.
-use Rattle.std.proofs.Common.{◌≡◌, ℕ, ◌^◌, ◌<◌, Bool, true, false, List, [], ◌∷◌, ◌++◌, length, Ok, Err, ap, ◌∙◌, sym, subst, inl, inr, refl, arith, length-append}
-use Rattle.std.specs.Prelude.{◌⊎◌, Option, Some, None, IsTrue, IsSome}
+use Rattle.std.proofs.Common.{◌≡◌, ℕ, ◌^◌, ◌<◌, Bool, true, false, List, [], ◌∷◌, ◌++◌, length, ap, ◌∙◌, sym, subst, inl, inr, refl, arith, length-append, append_assoc}
+use Rattle.std.specs.Prelude.{◌⊎◌, Option, Some, None, IsTrue}
 use Rattle.std.proofs.lemmas.Bool.{false≢true}
 use Rattle.std.proofs.lemmas.List.{length-map}
 use Rattle.std.proofs.lemmas.Option.{none-some}
@@ -13,11 +13,9 @@ use Rattle.vpn_text.specs.declared.config.ConfigFault.{ConfigFault}
 use Rattle.tls_crypt.specs.declared.static_key.KeyFault.{KeyFault}
 use Rattle.tls_crypt.specs.StaticKey.{static_key}
 use Rattle.schedule_text.specs.declared.kind.TextKind.{TextKind}
-use Rattle.replay_links.specs.declared.reading.LineFault.{LineFault}
-use Rattle.replay_links.specs.Schedule.{spells}
+use Rattle.replay_links.specs.Schedule.{EndWithHalt, spells}
 use Rattle.vpn_node.specs.Running.{stops_last}
 use Rattle.ovpn_config.specs.declared.settings.Settings.{Settings}
-use Rattle.ovpn_config.specs.declared.settings.KeyPlace.{KeyPlace}
 use Rattle.ovpn_config.specs.declared.settings.KeyPlace.TheVariants.{Named}
 use Rattle.ovpn_config.specs.Reading.{settings}
 use Rattle.server_table.specs.Runs.{Entry, run}
@@ -27,8 +25,8 @@ use Rattle.vpn_top.specs.declared.refusal.Refusal.{Refusal}
 use Rattle.vpn_top.specs.declared.refusal.Refusal.TheVariants as refusals
 use Rattle.vpn_top.specs.Answer.{IsCutOff, Ran, exit_status}
 use Rattle.vpn_top.specs.Check.{RanCheck}
-use Rattle.vpn_top.specs.Configuration.{Configured, HasKey, IsConfigured, IsKeyText, IsKeyed, IsMisconfigured, IsMiskeyed, Keyed, Misconfigured, Miskeyed}
-use Rattle.vpn_top.specs.Replay.{AreAllBefore, AreFirstOf, CameOf, First, IsServer, NotRead, RanReplay, Replayed, ReplayedBefore, ReplayedMost, ServerRun}
+use Rattle.vpn_top.specs.Configuration.{Configured, HasKey, IsConfigured, IsKeyed, IsMisconfigured, IsMiskeyed, Keyed, Misconfigured, Miskeyed}
+use Rattle.vpn_top.specs.Replay.{CameOf, First, HoldHalt, NotRead, RanReplay, Replayed, ReplayedBefore, ReplayedMost, ServerRun}
 use Rattle.vpn_top.specs.Words.{Check, Command, Replay, Route, TakesRole, configuration_of}
 use Rattle.vpn_top.specs.Written.{IsWhole, Run}
 use Rattle.vpn_top.proofs.Checks.{keyed_by}
@@ -322,14 +320,29 @@ replayed_end holds name schedule subject text s r run ran is role keyed told non
     go (Unread status rose) = inr (inl (status, rose))
     go (Off off) = inr (inr off)
 
+-- the end of a run is one of the events that are spelled
+halt_told : (h : Holding) (held : List ℕ) (entries : List Entry) → h ≡ Held held → EndWithHalt (events_of entries) → CameOf h (events_of entries) → HoldHalt (spells held).events
+halt_told h held entries told ends (NotRead none) = absurd (none_ends (sym none ∙ ends.all))
+  where
+    none_ends : [] ≡ ends.before ++ ends.last ∷ [] → ⊥
+    none_ends is = let counts = ap length is in let both = length-append ends.before (ends.last ∷ []) in omega (arith, counts, both)
+halt_told h held entries told ends (First left is) = record {
+  before = ends.before;
+  halt = ends.last;
+  after = left;
+  all = ap (λ (text : List ℕ). (spells text).events) (sym (told_whole h held is.text told is.whole))
+      ∙ (is.all ∙ (ap (λ (l : List Event). l ++ left) ends.all ∙ append_assoc ends.before (ends.last ∷ []) left));
+  halts = ends.halts;
+}
+
 -- a line of it is refused
 pub refused_end : (holds : List ℕ → Holding) (name schedule subject text : List ℕ) (s : Settings) (r : Option Refusal) (run : Run) → RanReplay holds name schedule r subject run →
     IsConfigured (holds name) s → s.role ≡ roles.Server → IsKeyed holds s.key → holds schedule ≡ Held text → length (spells text).events < 2 ^ 48 →
-    (exit_status r ≡ 5) ⊎ (exit_status r ≡ 0) ⊎ ((exit_status r ≡ 3) × Rose run.files.0 run.files.1) ⊎ IsCutOff (exit_status r) run.out run.err
+    (exit_status r ≡ 5) ⊎ ((exit_status r ≡ 0) × HoldHalt (spells text).events) ⊎ ((exit_status r ≡ 3) × Rose run.files.0 run.files.1) ⊎ IsCutOff (exit_status r) run.out run.err
 refused_end holds name schedule subject text s r run ran is role keyed told few = go (past_server holds name schedule subject s r run ran is role keyed)
   where
-    go : PastServer holds name schedule r run → (exit_status r ≡ 5) ⊎ (exit_status r ≡ 0) ⊎ ((exit_status r ≡ 3) × Rose run.files.0 run.files.1) ⊎ IsCutOff (exit_status r) run.out run.err
-    go (Done good done) = inr (inl (ap exit_status good))
+    go : PastServer holds name schedule r run → (exit_status r ≡ 5) ⊎ ((exit_status r ≡ 0) × HoldHalt (spells text).events) ⊎ ((exit_status r ≡ 3) × Rose run.files.0 run.files.1) ⊎ IsCutOff (exit_status r) run.out run.err
+    go (Done good done) = inr (inl (ap exit_status good, halt_told (holds schedule) text done.server.entries told done.halted done.server.came))
     go (AtLine line kind status before) = inl status
     go (Spent most) = absurd (few_came (holds schedule) text most.server.entries told few most.server.came most.most)
     go (NoSchedule status missing) = absurd (told_missing (holds schedule) text told missing)

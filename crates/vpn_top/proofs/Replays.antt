@@ -1,16 +1,13 @@
 -- How `replay` ends, once its refusal was told.
-use Rattle.std.proofs.Common.{◌≡◌, ℕ, zero, suc, ◌+◌, ◌^◌, ◌<◌, ◌≤◌, Bool, true, false, List, [], ◌∷◌, ◌++◌, length, take, ap, ◌∙◌, sym, subst, inl, inr, refl, arith, append-nil, append_assoc}
-use Rattle.std.specs.Prelude.{◌⊎◌, Option, Some, None, IsTrue, option_map}
+use Rattle.std.proofs.Common.{◌≡◌, ℕ, zero, suc, ◌+◌, ◌≤◌, Bool, true, false, List, [], ◌∷◌, ◌++◌, length, take, ap, ◌∙◌, sym, subst, inl, inr, refl, arith, append-nil, append_assoc}
+use Rattle.std.specs.Prelude.{◌⊎◌, Option, Some, None, IsTrue}
 use Rattle.std.proofs.lemmas.Bool.{false≢true}
 use Rattle.std.proofs.lemmas.Option.{none-some}
-use Rattle.std.proofs.Math.Seq.{take-length}
 use Rattle.vpn_base.specs.Answers.{Rose}
 use Rattle.vpn_base.specs.Files.{Holding, Untold, Absent, Held, IsMissing}
 use Rattle.vpn_base.specs.Sink.{appended}
 use Rattle.vpn_links.specs.Actions.{Action}
-use Rattle.vpn_links.specs.Faults.{Asking, Giving}
 use Rattle.vpn_links.specs.declared.events.Event.{Event}
-use Rattle.vpn_links.specs.declared.links.LinkFault.{LinkFault}
 use Rattle.vpn_links.specs.declared.links.LinkFault.TheVariants as faults
 use Rattle.vpn_node.specs.Running.{Between, BrokeOff, Ends, Within, goes_on, stops_last}
 use Rattle.vpn_node.specs.declared.outcome.Outcome.{Outcome}
@@ -27,18 +24,18 @@ use Rattle.ovpn_config.specs.declared.settings.Settings.{Settings}
 use Rattle.server_table.specs.Runs.{Entry, MayRun, after, run}
 use Rattle.server_table.specs.Table.{Table, table_begun}
 use Rattle.server_promise.specs.Promise.{Promise}
-use Rattle.server_replay.specs.Replays.{AreSpelled, BrokeBy, CameFrom, IsReplay, most_turns}
-use Rattle.server_replay.specs.Runs.{LackNothing, events_of}
+use Rattle.server_replay.specs.Replays.{AreSpelled, BrokeBy, IsReplay, most_turns}
+use Rattle.server_replay.specs.Runs.{events_of}
 use Rattle.server_replay.specs.Transcript.{transcript}
 use Rattle.vpn_top.specs.declared.refusal.Refusal.{Refusal}
 use Rattle.vpn_top.specs.declared.refusal.Refusal.TheVariants as refusals
 use Rattle.vpn_top.specs.declared.replay.Loaded.{Loaded}
-use Rattle.vpn_top.specs.Partly.{AppendedPart}
-use Rattle.vpn_top.specs.Replay.{All, AreAllBefore, AreFirstOf, AreGiven, CameOf, Fewer, First, IsPart, IsServer, NotRead, Nothing, OfLast, OfLine, RanReplay, Replayed, ReplayedAtMost, ReplayedBefore, ReplayedMost, ReplayedPart, ServerRun, done_line, outs_in}
+use Rattle.vpn_top.specs.Replay.{AreAllBefore, CameOf, First, IsServer, NotRead, RanReplay, ReplayedAtMost, ReplayedPart, ServerRun, done_line, outs_in}
 use Rattle.vpn_top.specs.Written.{IsWhole, Run}
 use Rattle.vpn_top.specs.internal.Refused.{Printing}
 use Rattle.vpn_top.specs.internal.Replaying.{IsLoaded, ServerEnded, ended_by, refusal_by, refused_by, stopped_by, unread_by}
 use Rattle.vpn_top.proofs.Counting.{rose_since}
+use Rattle.vpn_top.proofs.Transcripts.{Begins, StopOfEnd, begins_behind, begins_longer, front_taken, halted_last, run_begins}
 
 -- ---- texts that were appended
 
@@ -98,32 +95,18 @@ run_length t (entry ∷ entries) = ap suc (run_length (after t entry) entries)
 
 -- ---- what was given
 
-given_broken : (may_ask may_give : Type 0) (turns : ℕ) (outs given : List (List Action)) → BrokeOff may_ask may_give turns outs given → AreGiven outs given
-given_broken may_ask may_give turns outs given (Between may whole onward fewer) = All whole
-given_broken may_ask may_give turns outs given (Within may n part within only most) = Fewer n part
-
-given_by : (outcome : Outcome) (outs given : List (List Action)) → Ends MayFail outcome most_turns outs given → AreGiven outs given
-given_by outcomes.Stopped outs given is = All is.0
-given_by outcomes.TurnsSpent outs given is = All is.0
-given_by (outcomes.Fault fault) outs given is = given_broken (MayFail Asking fault) (MayFail Giving fault) most_turns outs given is
-given_by outcomes.Memory outs given is = given_broken (Unit {0}) (Unit {0}) most_turns outs given is
-
-part_by : (is_cut : Bool) (count : ℕ) (part : List ℕ) → links.IsPart is_cut count part → IsPart count part
-part_by false count part is = Nothing is
-part_by true count part is = OfLine is.0 is.1 is.2 is.3 is.4
-
-no_part : (is_cut : Bool) (count : ℕ) (part : List ℕ) → is_cut ≡ false → links.IsPart is_cut count part → part ≡ []
-no_part false count part uncut is = is
-no_part true count part uncut is = absurd (false≢true (sym uncut))
+no_front : (is_cut : Bool) (count : ℕ) (part : Option Action) (front : List ℕ) → is_cut ≡ false → links.IsFront is_cut count part front → front ≡ []
+no_front false count part front uncut is = is
+no_front true count part front uncut is = absurd (false≢true (sym uncut))
 
 -- a schedule that gave no further event broke the run off between two
-between : (turns : ℕ) (outs given : List (List Action)) → BrokeOff (Unit {0}) ⊥ turns outs given → (given ≡ outs) × IsTrue (goes_on outs)
-between turns outs given (Between may whole onward fewer) = (whole, onward)
-between turns outs given (Within never n part within only most) = absurd never
+between : (turns : ℕ) (outs given : List (List Action)) (part : Option Action) → BrokeOff (Unit {0}) ⊥ turns outs given part → (given ≡ outs) × IsTrue (goes_on outs)
+between turns outs given part (Between may whole none onward fewer) = (whole, onward)
+between turns outs given part (Within never n first at within only most) = absurd never
 
-never_broke : (turns : ℕ) (outs given : List (List Action)) → BrokeOff ⊥ ⊥ turns outs given → ⊥
-never_broke turns outs given (Between never whole onward fewer) = never
-never_broke turns outs given (Within never n part within only most) = never
+never_broke : (turns : ℕ) (outs given : List (List Action)) (part : Option Action) → BrokeOff ⊥ ⊥ turns outs given part → ⊥
+never_broke turns outs given part (Between never whole none onward fewer) = never
+never_broke turns outs given part (Within never n first at within only most) = never
 
 abbrev is_missing : Option ReplayEnd → Bool
 is_missing (Some ends.Missing) = true
@@ -134,6 +117,19 @@ not_missing ended files other (inl is) = absurd (other is)
 not_missing ended files other (inr rose) = rose
 
 -- ---- the end of a run
+
+-- a front of its lines was written
+front_of : {holds : List ℕ → Holding} {config schedule : List ℕ} (run : Run) (server : ServerRun holds config schedule) (text : List ℕ) → run.after ≡ appended run.before text →
+    Begins text (transcript (outs_in server) ++ done_line (length server.entries)) → ReplayedPart holds config schedule run
+front_of run server text written begins = record {
+  server = server;
+  size = length text;
+  written = written ∙ ap (appended run.before) (front_taken text (transcript (outs_in server) ++ done_line (length server.entries)) begins);
+}
+
+-- all of them but the last
+front_lines : {holds : List ℕ → Holding} {config schedule : List ℕ} (run : Run) (server : ServerRun holds config schedule) → run.after ≡ appended run.before (transcript (outs_in server)) → ReplayedPart holds config schedule run
+front_lines run server written = front_of run server (transcript (outs_in server)) written (record { rest = done_line (length server.entries); same = refl })
 
 module _ (law : LongLaw) (promise : (settings : Settings) (key : List ℕ) (entries : List Entry) → MayRun (table_begun settings key) entries → Promise settings key entries)
     (holds : List ℕ → Holding) (config schedule : List ℕ) (loaded : Loaded) (before now after : Option (List ℕ)) (ended : Option ReplayEnd) (is_cut : Bool) (ran : Ran)
@@ -159,20 +155,20 @@ module _ (law : LongLaw) (promise : (settings : Settings) (key : List ℕ) (entr
   this_run held = record { before = before; after = held; files = files; out = out; err = err }
 
   -- what was written, whatever it came to
+  part_written : (held : Option (List ℕ)) → held ≡ appended before (transcript r.given ++ r.front) → ReplayedPart holds config schedule (this_run held)
+  part_written held written =
+      let count = run_length (table_begun loaded.settings loaded.key.0) r.entries in
+      front_of (this_run held) served (transcript r.given ++ r.front) written
+      (begins_longer (transcript r.given ++ r.front) (transcript (outs_in served)) (done_line (length r.entries))
+      (run_begins ran.outcome is_cut (outs_in served) r.given r.part r.front r.outcome (subst (λ (n : ℕ). links.IsFront is_cut n r.part r.front) (sym count) r.cut)))
+
   pub in_part : ReplayedPart holds config schedule (this_run now)
-  in_part = record {
-    server = served;
-    given = r.given;
-    are_given = given_by ran.outcome (outs_in served) r.given r.outcome;
-    part = r.part;
-    is_part = part_by is_cut (length r.entries) r.part r.cut;
-    written = r.written;
-  }
+  in_part = part_written now r.written
 
   -- where no line was cut and all was given
   whole_lines : is_cut ≡ false → r.given ≡ outs_in served → now ≡ appended before (transcript (outs_in served))
   whole_lines uncut whole =
-      r.written ∙ (ap (λ (part : List ℕ). appended before (transcript r.given ++ part)) (no_part is_cut (length r.entries) r.part uncut r.cut)
+      r.written ∙ (ap (λ (front : List ℕ). appended before (transcript r.given ++ front)) (no_front is_cut (length r.entries) r.part r.front uncut r.cut)
       ∙ (ap (appended before) (append-nil (transcript r.given)) ∙ ap (λ (given : List (List Action)). appended before (transcript given)) whole))
 
   missing_end : is_cut ≡ false → ended ≡ Some ends.Missing → r.given ≡ outs_in served → IsMissing (holds schedule) × (now ≡ before)
@@ -224,24 +220,24 @@ module _ (law : LongLaw) (promise : (settings : Settings) (key : List ℕ) (entr
   stopped_end uncut whole stopped zero is = (uncut, whole, stopped, is)
   stopped_end uncut whole stopped (suc n) is = inr in_part
 
-  outcome_end : is_cut ≡ false → (outcome : Outcome) → Ends MayFail outcome most_turns (outs_in served) r.given → BrokeBy outcome ended (mid, files.1) out → files.0 ≤ mid →
+  outcome_end : is_cut ≡ false → (outcome : Outcome) → Ends MayFail outcome most_turns (outs_in served) r.given r.part → BrokeBy outcome ended (mid, files.1) out → files.0 ≤ mid →
       EndOf (ended_by outcome ended ran.refused)
-  outcome_end uncut outcomes.Stopped is by since = stopped_end uncut is.0 is.1 ran.refused refl
+  outcome_end uncut outcomes.Stopped is by since = stopped_end uncut is.0 is.2 ran.refused refl
   outcome_end uncut outcomes.TurnsSpent is by since = record {
     server = served;
-    most = let count = run_length (table_begun loaded.settings loaded.key.0) r.entries in sym count ∙ is.2;
-    not_stopped = is.1;
+    most = let count = run_length (table_begun loaded.settings loaded.key.0) r.entries in sym count ∙ is.3;
+    not_stopped = is.2;
     written = whole_lines uncut is.0;
   }
   outcome_end uncut outcomes.Memory is by since = inr in_part
-  outcome_end uncut (outcomes.Fault faults.Input) is by since = let b = between most_turns (outs_in served) r.given is in input_end uncut b.0 by since ended refl
-  outcome_end uncut (outcomes.Fault faults.Schedule) is by since = let b = between most_turns (outs_in served) r.given is in schedule_end uncut b.0 b.1 ended refl by
+  outcome_end uncut (outcomes.Fault faults.Input) is by since = let b = between most_turns (outs_in served) r.given r.part is in input_end uncut b.0 by since ended refl
+  outcome_end uncut (outcomes.Fault faults.Schedule) is by since = let b = between most_turns (outs_in served) r.given r.part is in schedule_end uncut b.0 b.1 ended refl by
   outcome_end uncut (outcomes.Fault faults.Output) is by since = (inl by, inr in_part)
-  outcome_end uncut (outcomes.Fault faults.Wire) is by since = absurd (never_broke most_turns (outs_in served) r.given is)
-  outcome_end uncut (outcomes.Fault faults.Engine) is by since = absurd (never_broke most_turns (outs_in served) r.given is)
-  outcome_end uncut (outcomes.Fault faults.Device) is by since = absurd (never_broke most_turns (outs_in served) r.given is)
-  outcome_end uncut (outcomes.Fault faults.Console) is by since = absurd (never_broke most_turns (outs_in served) r.given is)
-  outcome_end uncut (outcomes.Fault faults.Random) is by since = absurd (never_broke most_turns (outs_in served) r.given is)
+  outcome_end uncut (outcomes.Fault faults.Wire) is by since = absurd (never_broke most_turns (outs_in served) r.given r.part is)
+  outcome_end uncut (outcomes.Fault faults.Engine) is by since = absurd (never_broke most_turns (outs_in served) r.given r.part is)
+  outcome_end uncut (outcomes.Fault faults.Device) is by since = absurd (never_broke most_turns (outs_in served) r.given r.part is)
+  outcome_end uncut (outcomes.Fault faults.Console) is by since = absurd (never_broke most_turns (outs_in served) r.given r.part is)
+  outcome_end uncut (outcomes.Fault faults.Random) is by since = absurd (never_broke most_turns (outs_in served) r.given r.part is)
 
   run_end : (cut : Bool) → is_cut ≡ cut → BrokeBy ran.outcome ended (mid, files.1) out → (is_cut ≡ true → Rose out.0 out.1) → files.0 ≤ mid → EndOf (refusal_by cut ran.outcome ended ran.refused)
   run_end true is by rises since = (inl (rises is), inr in_part)
@@ -253,46 +249,37 @@ module _ (law : LongLaw) (promise : (settings : Settings) (key : List ℕ) (entr
   run_ended refusal is by rises since = subst EndOf (sym is) (run_end is_cut refl by rises since)
 
   -- once the last line was written, or not
-  pub done_end : (x : Option Refusal) (out_mid : ℕ) → Good → Printing (done_line ran.events) now after (out_mid, out.1) x → out.0 ≤ out_mid →
+  pub done_end : StopOfEnd → (x : Option Refusal) (out_mid : ℕ) → Good → Printing (done_line ran.events) now after (out_mid, out.1) x → out.0 ≤ out_mid →
       RanReplay holds config schedule x schedule (this_run after)
-  done_end None out_mid good printed since = record {
+  done_end stop None out_mid good printed since = record {
     server = served;
     stopped = good.2;
+    halted = halted_last stop (table_begun loaded.settings loaded.key.0) r.entries good.2;
     nothing_lacks = r.whole good.3;
     written = printed ∙ (ap (λ (held : Option (List ℕ)). appended held (done_line ran.events)) (whole_lines good.0 good.1)
         ∙ (appended_twice before (transcript (outs_in served)) (done_line ran.events)
         ∙ ap (λ (n : ℕ). appended before (transcript (outs_in served) ++ done_line n)) r.events));
   }
-  done_end (Some refusals.Output) out_mid good printed since = (
-    inl (rose_since out.0 out_mid out.1 since printed.0),
-    inr (record {
-      server = served;
-      given = outs_in served;
-      are_given = All refl;
-      part = take printed.1.length (done_line (length r.entries));
-      is_part = OfLast printed.1.length refl;
-      written = printed.1.is ∙ (ap (λ (held : Option (List ℕ)). appended held (take printed.1.length (done_line ran.events))) (whole_lines good.0 good.1)
-          ∙ (appended_twice before (transcript (outs_in served)) (take printed.1.length (done_line ran.events))
-          ∙ ap (λ (n : ℕ). appended before (transcript (outs_in served) ++ take printed.1.length (done_line n))) r.events));
-    }),
-  )
-  done_end (Some refusals.NoMemory) out_mid good printed since = inr (record {
-    server = served;
-    given = r.given;
-    are_given = given_by ran.outcome (outs_in served) r.given r.outcome;
-    part = r.part;
-    is_part = part_by is_cut (length r.entries) r.part r.cut;
-    written = printed ∙ r.written;
-  })
-  done_end (Some refusals.Usage) out_mid good printed since = absurd printed
-  done_end (Some (refusals.Line fault)) out_mid good printed since = absurd printed
-  done_end (Some (refusals.Config line kind)) out_mid good printed since = absurd printed
-  done_end (Some (refusals.Key fault)) out_mid good printed since = absurd printed
-  done_end (Some refusals.NotServer) out_mid good printed since = absurd printed
-  done_end (Some (refusals.Schedule line kind)) out_mid good printed since = absurd printed
-  done_end (Some refusals.TurnsSpent) out_mid good printed since = absurd printed
-  done_end (Some refusals.Missing) out_mid good printed since = absurd printed
-  done_end (Some refusals.Unreadable) out_mid good printed since = absurd printed
+  done_end stop (Some refusals.Output) out_mid good printed since =
+      let front = take printed.1.length (done_line (length r.entries)) in
+      (
+        inl (rose_since out.0 out_mid out.1 since printed.0),
+        inr (front_of (this_run after) served (transcript (outs_in served) ++ front)
+            (printed.1.is ∙ (ap (λ (held : Option (List ℕ)). appended held (take printed.1.length (done_line ran.events))) (whole_lines good.0 good.1)
+            ∙ (appended_twice before (transcript (outs_in served)) (take printed.1.length (done_line ran.events))
+            ∙ ap (λ (n : ℕ). appended before (transcript (outs_in served) ++ take printed.1.length (done_line n))) r.events)))
+            (begins_behind (transcript (outs_in served)) (done_line (length r.entries)) printed.1.length)),
+      )
+  done_end stop (Some refusals.NoMemory) out_mid good printed since = inr (part_written after (printed ∙ r.written))
+  done_end stop (Some refusals.Usage) out_mid good printed since = absurd printed
+  done_end stop (Some (refusals.Line fault)) out_mid good printed since = absurd printed
+  done_end stop (Some (refusals.Config line kind)) out_mid good printed since = absurd printed
+  done_end stop (Some (refusals.Key fault)) out_mid good printed since = absurd printed
+  done_end stop (Some refusals.NotServer) out_mid good printed since = absurd printed
+  done_end stop (Some (refusals.Schedule line kind)) out_mid good printed since = absurd printed
+  done_end stop (Some refusals.TurnsSpent) out_mid good printed since = absurd printed
+  done_end stop (Some refusals.Missing) out_mid good printed since = absurd printed
+  done_end stop (Some refusals.Unreadable) out_mid good printed since = absurd printed
 
 -- ---- the server was not loaded
 
@@ -312,26 +299,6 @@ not_loaded refusals.NoMemory holds config schedule subject run same ended = inl 
 
 -- ---- its refusal was told
 
-at_most_before : (holds : List ℕ → Holding) (config schedule : List ℕ) (line : ℕ) (kind : _) (run : Run) → ReplayedBefore holds config schedule line kind run → ReplayedAtMost holds config schedule run
-at_most_before holds config schedule line kind run ran = inr (record {
-  server = ran.server;
-  given = outs_in ran.server;
-  are_given = All refl;
-  part = [];
-  is_part = Nothing refl;
-  written = ran.written ∙ ap (appended run.before) (sym (append-nil (transcript (outs_in ran.server))));
-})
-
-at_most_spent : (holds : List ℕ → Holding) (config schedule : List ℕ) (run : Run) → ReplayedMost holds config schedule run → ReplayedAtMost holds config schedule run
-at_most_spent holds config schedule run ran = inr (record {
-  server = ran.server;
-  given = outs_in ran.server;
-  are_given = All refl;
-  part = [];
-  is_part = Nothing refl;
-  written = ran.written ∙ ap (appended run.before) (sym (append-nil (transcript (outs_in ran.server))));
-})
-
 -- whatever it was refused for
 at_most : (r : Refusal) (holds : List ℕ → Holding) (config schedule subject : List ℕ) (run : Run) → RanReplay holds config schedule (Some r) subject run → ReplayedAtMost holds config schedule run
 at_most refusals.Usage holds config schedule subject run ran = absurd ran
@@ -339,8 +306,8 @@ at_most (refusals.Line fault) holds config schedule subject run ran = absurd ran
 at_most (refusals.Config line kind) holds config schedule subject run ran = inl ran.1
 at_most (refusals.Key fault) holds config schedule subject run ran = inl ran.1
 at_most refusals.NotServer holds config schedule subject run ran = inl ran.1
-at_most (refusals.Schedule line kind) holds config schedule subject run ran = at_most_before holds config schedule line kind run ran
-at_most refusals.TurnsSpent holds config schedule subject run ran = at_most_spent holds config schedule run ran
+at_most (refusals.Schedule line kind) holds config schedule subject run ran = inr (front_lines run ran.server ran.written)
+at_most refusals.TurnsSpent holds config schedule subject run ran = inr (front_lines run ran.server ran.written)
 at_most refusals.Missing holds config schedule subject run ran = inl ran.2
 at_most refusals.Unreadable holds config schedule subject run (rose, inl first) = inl first.2
 at_most refusals.Unreadable holds config schedule subject run (rose, inr then) = inr then.1

@@ -1,5 +1,5 @@
 -- What `replay` does: it runs a server over a schedule, and prints what it does.
-use Rattle.std.specs.Prelude.{◌≡◌, ◌⊎◌, ℕ, ◌^◌, ◌<◌, List, [], ◌∷◌, ◌++◌, codes, length, take, Option, Some, None, IsTrue}
+use Rattle.std.specs.Prelude.{◌≡◌, ◌⊎◌, ℕ, ◌^◌, List, [], ◌∷◌, ◌++◌, codes, length, take, Option, Some, None, IsTrue}
 use Rattle.std.specs.Fmt.{decimal}
 use Rattle.vpn_base.specs.Answers.{Rose}
 use Rattle.vpn_base.specs.Files.{Holding, Absent, IsMissing}
@@ -7,13 +7,13 @@ use Rattle.vpn_base.specs.Sink.{appended}
 use Rattle.vpn_base.specs.declared.names.Role.TheVariants as roles
 use Rattle.vpn_links.specs.Actions.{Action}
 use Rattle.vpn_links.specs.declared.events.Event.{Event}
-use Rattle.schedule_text.specs.EffectLine.{effect_line}
+use Rattle.vpn_links.specs.declared.events.Kind.TheVariants.{Halt}
 use Rattle.schedule_text.specs.declared.kind.TextKind.{TextKind}
-use Rattle.replay_links.specs.Schedule.{spells}
+use Rattle.replay_links.specs.Schedule.{EndWithHalt, spells}
 use Rattle.tls_crypt.specs.declared.static_key.KeyFault.{KeyFault}
 use Rattle.ovpn_config.specs.declared.settings.Settings.{Settings}
 use Rattle.ovpn_config.specs.declared.settings.KeyPlace.TheVariants.{Named}
-use Rattle.vpn_node.specs.Running.{cut_last, goes_on, stops_last}
+use Rattle.vpn_node.specs.Running.{goes_on, stops_last}
 use Rattle.server_table.specs.Runs.{Entry, MayRun, run}
 use Rattle.server_table.specs.Table.{table_begun}
 use Rattle.server_promise.specs.Promise.{Promise}
@@ -44,6 +44,14 @@ pub record AreAllBefore (holding : Holding) (events : List Event) (line : ℕ) (
   pub all : (spells text).events ≡ events
   pub fault : (spells text).fault ≡ Some (record { line = line; kind = kind })
 
+-- one of these events is the end
+pub record HoldHalt (events : List Event) : Type 0 where
+  pub before : List Event
+  pub halt : Event
+  pub after : List Event
+  pub all : events ≡ before ++ halt ∷ after
+  pub halts : halt.kind ≡ Halt
+
 -- ---- the run
 
 -- A run of the server of a configuration with its static key, to which nothing has come, over events of a schedule, at each of which lacked what may. It keeps the promise.
@@ -68,10 +76,11 @@ outs_in server = run (table_begun server.settings server.key) server.entries
 abbrev pub done_line : ℕ → List ℕ
 done_line events = codes "done " ++ decimal events ++ codes " lost 0" ++ 10 ∷ []
 
--- the run stopped at its last event, at none of which anything lacked; the lines of all that it did were written, and the last line
+-- the run stopped at its last event, which is the end, and at none of which anything lacked; the lines of all that it did were written, and the last line
 pub record Replayed (holds : List ℕ → Holding) (config schedule : List ℕ) (r : Run) : Type 0 where
   pub server : ServerRun holds config schedule
   pub stopped : IsTrue (stops_last (outs_in server))
+  pub halted : EndWithHalt (events_of server.entries)
   pub nothing_lacks : LackNothing server.entries
   pub written : r.after ≡ appended r.before (transcript (outs_in server) ++ done_line (length server.entries))
 
@@ -89,27 +98,13 @@ pub record ReplayedMost (holds : List ℕ → Holding) (config schedule : List �
   pub not_stopped : IsTrue (goes_on (outs_in server))
   pub written : r.after ≡ appended r.before (transcript (outs_in server))
 
--- the effects that were given: all of them, or all but some of the last event
-pub data AreGiven (outs given : List (List Action)) : Type 0 where
-  All : given ≡ outs → AreGiven outs given
-  Fewer : (n : ℕ) → given ≡ cut_last n outs → AreGiven outs given
-
--- what may stand behind whole lines: nothing, a front of the line of an effect of one of so many events, or a front of the last line
-pub data IsPart (count : ℕ) (part : List ℕ) : Type 0 where
-  Nothing : part ≡ [] → IsPart count part
-  OfLine : (number : ℕ) (action : Action) (n : ℕ) → number < count → part ≡ take n (effect_line number action) → IsPart count part
-  OfLast : (n : ℕ) → part ≡ take n (done_line count) → IsPart count part
-
--- the run broke off somewhere, or was not told to its end
+-- the run broke off somewhere, or was not told to its end: a front of all its lines was written
 pub record ReplayedPart (holds : List ℕ → Holding) (config schedule : List ℕ) (r : Run) : Type 0 where
   pub server : ServerRun holds config schedule
-  pub given : List (List Action)
-  pub are_given : AreGiven (outs_in server) given
-  pub part : List ℕ
-  pub is_part : IsPart (length server.entries) part
-  pub written : r.after ≡ appended r.before (transcript given ++ part)
+  pub size : ℕ
+  pub written : r.after ≡ appended r.before (take size (transcript (outs_in server) ++ done_line (length server.entries)))
 
--- nothing was written, or some of it
+-- nothing was written, or a front of all that a run does
 abbrev pub ReplayedAtMost : (List ℕ → Holding) → List ℕ → List ℕ → Run → Type 0
 ReplayedAtMost holds config schedule r = (r.after ≡ r.before) ⊎ ReplayedPart holds config schedule r
 

@@ -16,6 +16,7 @@ use ovpn_config::Settings;
 use replay_links::{ReplayEnd, a_long_file_is_refused_where_it_passes_its_limit};
 use server_promise::runs_keep_the_promise;
 use server_replay::Replayed;
+use server_table::only_the_end_stops;
 use std::alloc::Global;
 use tls_crypt::StaticKey;
 use vpn_base::{Files, NoMemory, Role, Sink, Text};
@@ -153,6 +154,7 @@ pub(crate) fn replay<F: Files, S: Sink>(
 {
     runs_keep_the_promise();
     a_long_file_is_refused_where_it_passes_its_limit();
+    only_the_end_stops();
     let Ok(name) = Text::copy(alloc, schedule) else {
         return (Some(Refusal::NoMemory), files, out);
     };

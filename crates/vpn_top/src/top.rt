@@ -15,6 +15,7 @@ ghost use Rattle.vpn_top.specs.Words.{Check, Command, Replay, Route, TakesRole, 
 ghost use Rattle.vpn_top.specs.internal.Requests.{asked};
 ghost use Rattle.vpn_top.specs.Configuration.{IsConfigured, IsKeyed, IsMisconfigured, IsMiskeyed};
 ghost use Rattle.vpn_top.specs.Answer.{Answered, Finished, IsCutOff, exit_status as status_for};
+ghost use Rattle.vpn_top.specs.Replay.{HoldHalt};
 ghost use Rattle.vpn_top.specs.internal.Told.{Tells};
 
 use crate::check::check;
@@ -294,7 +295,7 @@ pub fn vpn_main<F: Files, S: Sink, E: Sink>(
         ⊎ IsCutOff result.0 (S.faults outside.out, S.faults result.1.out) (E.faults outside.err, E.faults result.1.err) }
 
     // A schedule is replayed to its end where none of its lines is refused; one of whose lines is refused, up to that
-    // line or up to where an event before it stops the server; and one that is absent is missing.
+    // line or up to a halt before it; and one that is absent is missing.
     ensures replayed { (config schedule text : List ℕ) (s : Settings) → command_of (map string_bytes words.now) ≡ Some (Replay config schedule) →
         IsConfigured (F.holds outside.files config) s → s.role ≡ roles.Server → IsKeyed (F.holds outside.files) s.key →
         F.holds outside.files schedule ≡ Held text → (spells text).fault ≡ None → length (spells text).events < 2 ^ 48 →
@@ -305,7 +306,7 @@ pub fn vpn_main<F: Files, S: Sink, E: Sink>(
         IsConfigured (F.holds outside.files config) s → s.role ≡ roles.Server → IsKeyed (F.holds outside.files) s.key →
         F.holds outside.files schedule ≡ Held text → IsSome (spells text).fault → length (spells text).events < 2 ^ 48 →
         (result.0 ≡ 5)
-        ⊎ (result.0 ≡ 0)
+        ⊎ ((result.0 ≡ 0) × HoldHalt (spells text).events)
         ⊎ ((result.0 ≡ 3) × Rose (F.faults outside.files) (F.faults result.1.files))
         ⊎ IsCutOff result.0 (S.faults outside.out, S.faults result.1.out) (E.faults outside.err, E.faults result.1.err) }
     ensures unscheduled { (config schedule : List ℕ) (s : Settings) → command_of (map string_bytes words.now) ≡ Some (Replay config schedule) →

@@ -1,6 +1,7 @@
 -- The server over an outside.
-use Rattle.std.specs.Prelude.{◌≡◌, ◌⊎◌, ℕ, List, ◌++◌, length}
+use Rattle.std.specs.Prelude.{◌≡◌, ◌⊎◌, ℕ, List, ◌++◌, length, Option, None}
 use Rattle.vpn_base.specs.Answers.{Rose}
+use Rattle.vpn_links.specs.Actions.{Action}
 use Rattle.vpn_links.specs.Faults.{Asking, LinkCall, Starting}
 use Rattle.vpn_links.specs.Rounds.{Round}
 use Rattle.vpn_links.specs.declared.links.LinkFault.{LinkFault}
@@ -18,16 +19,17 @@ abbrev pub with_start : (LinkCall → LinkFault → Type 0) → LinkCall → Lin
 with_start may_fail Asking fault = may_fail Asking fault ⊎ may_fail Starting fault
 with_start may_fail call fault = may_fail call fault
 
--- what a run came to from a table on, over an outside whose calls may answer these faults: its events with what lacked, and the rounds that the
--- outside got beyond those that it had
-pub record Served (may_fail : LinkCall → LinkFault → Type 0) (t : Table) (Told_before Told : List Round → Type 0) (ran : Ran) : Type 0 where
+-- what a run came to from a table on, over an outside whose calls may answer these faults: its events with what lacked, the rounds that the
+-- outside got beyond those that it had, and the effect of which it took only a part
+pub record Served (may_fail : LinkCall → LinkFault → Type 0) (t : Table) (Told_before Told : Option Action → List Round → Type 0) (ran : Ran) : Type 0 where
   pub entries : List Entry
   pub rounds : List Round
+  pub part : Option Action
   pub may : MayRun t entries
-  pub told : (before : List Round) → Told_before before → Told (before ++ rounds)
+  pub told : (before : List Round) → Told_before None before → Told part (before ++ rounds)
   pub came : came_in rounds ≡ events_of entries
   pub wires : OnlyWiresLost may_fail rounds
-  pub ended : Ends may_fail ran.outcome most_turns (run t entries) (given_in rounds)
+  pub ended : Ends may_fail ran.outcome most_turns (run t entries) (given_in rounds) part
   pub events : ran.events ≡ length entries
   pub lost : ran.lost ≡ capped (lost_by rounds)
   pub refused : ran.refused ≡ capped (left_out_in t entries)

@@ -1,8 +1,8 @@
 -- One event of a run, and a run that goes on.
-use Rattle.std.specs.Prelude.{◌≡◌, ℕ, ◌+◌, ◌<◌, Bool, true, false, List, [], ◌∷◌, ◌++◌, length, take, Option, Some, None, IsTrue}
+use Rattle.std.specs.Prelude.{◌≡◌, ℕ, ◌+◌, ◌<◌, Bool, true, false, List, [], ◌∷◌, ◌++◌, length, take, slice_get, Option, Some, None, IsTrue}
 use Rattle.vpn_base.specs.declared.errors.Or.{Or}
 use Rattle.vpn_base.specs.declared.errors.Or.TheVariants.{Memory, Why}
-use Rattle.vpn_links.specs.Actions.{Action, Contents, is_wire}
+use Rattle.vpn_links.specs.Actions.{Action, Contents, is_wire, stops}
 use Rattle.vpn_links.specs.Faults.{Asking, Giving, LinkCall}
 use Rattle.vpn_links.specs.Rounds.{Given, Round, gave}
 use Rattle.vpn_links.specs.Steps.{Lack}
@@ -12,7 +12,7 @@ use Rattle.vpn_links.specs.declared.links.LinkFault.TheVariants as faults
 use Rattle.vpn_node.specs.declared.outcome.Outcome.{Outcome}
 use Rattle.vpn_node.specs.declared.outcome.Outcome.TheVariants as outcomes
 use Rattle.vpn_node.specs.declared.run.Tally.{Tally}
-use Rattle.vpn_node.specs.Running.{Caused, Entry, MayLack, MayRun, OnlyWireLost, OnlyWiresLost, actions_of, after, after_all, after_lacking, came_in, capped, events_of, given_in, goes_on, lost_by, lost_of, one_if, outs_at, outs_lacking, refused_by, refused_lacking, run, stops}
+use Rattle.vpn_node.specs.Running.{Caused, Entry, MayLack, MayRun, OnlyWireLost, OnlyWiresLost, actions_of, after, after_all, after_lacking, came_in, capped, events_of, given_in, goes_on, lost_by, lost_of, one_if, outs_at, outs_lacking, refused_by, refused_lacking, run}
 
 -- what breaks a run off where an effect is given: want of memory, or a fault that was counted, is not of the line, and may be then
 abbrev pub IsBreak : (LinkCall → LinkFault → Type 0) → Outcome → (LinkFault → ℕ) → (LinkFault → ℕ) → Type 0
@@ -44,9 +44,9 @@ pub record GaveNone (Told_before Told : List Round → Type 0) (lost_before lost
   pub counted : lost ≡ lost_before
 
 -- what became of an effect, by the break that came
-abbrev pub GaveOne : (LinkCall → LinkFault → Type 0) → Option Outcome → Action → (List Round → Type 0) → (List Round → Type 0) → ℕ → ℕ → Type 0
-GaveOne may_fail None action Told_before Told lost_before lost = GaveAlso may_fail action Told_before Told lost_before lost
-GaveOne may_fail (Some outcome) action Told_before Told lost_before lost = GaveNone Told_before Told lost_before lost
+abbrev pub GaveOne : (LinkCall → LinkFault → Type 0) → Option Outcome → Action → (Option Action → List Round → Type 0) → (Option Action → List Round → Type 0) → ℕ → ℕ → Type 0
+GaveOne may_fail None action Told_before Told lost_before lost = GaveAlso may_fail action (Told_before None) (Told None) lost_before lost
+GaveOne may_fail (Some outcome) action Told_before Told lost_before lost = GaveNone (Told_before None) (Told (Some action)) lost_before lost
 
 -- the first n effects of the last event were given
 pub record GaveFirst (may_fail : LinkCall → LinkFault → Type 0) (n : ℕ) (actions : List Action) (Told_before Told : List Round → Type 0) (lost_before lost : ℕ) : Type 0 where
@@ -57,9 +57,9 @@ pub record GaveFirst (may_fail : LinkCall → LinkFault → Type 0) (n : ℕ) (a
   pub counted : lost ≡ capped (lost_before + lost_of given)
 
 -- all of its effects were given, or a break came before one of them
-abbrev pub Gave : (LinkCall → LinkFault → Type 0) → Option Outcome → List Action → (List Round → Type 0) → (List Round → Type 0) → ℕ → ℕ → Type 0
-Gave may_fail None actions Told_before Told lost_before lost = GaveFirst may_fail (length actions) actions Told_before Told lost_before lost
-Gave may_fail (Some outcome) actions Told_before Told lost_before lost = (n : ℕ) × (n < length actions) × GaveFirst may_fail n actions Told_before Told lost_before lost
+abbrev pub Gave : (LinkCall → LinkFault → Type 0) → Option Outcome → List Action → (Option Action → List Round → Type 0) → (Option Action → List Round → Type 0) → ℕ → ℕ → Type 0
+Gave may_fail None actions Told_before Told lost_before lost = GaveFirst may_fail (length actions) actions (Told_before None) (Told None) lost_before lost
+Gave may_fail (Some outcome) actions Told_before Told lost_before lost = (n : ℕ) × (n < length actions) × GaveFirst may_fail n actions (Told_before None) (Told (slice_get actions n)) lost_before lost
 
 -- a core took an event, or it lacked memory for it, and the outbox holds what that does
 pub record TookStep {T : Type 0} (next : Bool → T → Event → T) (effects : Bool → T → Event → List Action) (may_lack : T → Event → Lack → Type 0)
@@ -98,16 +98,17 @@ pub record TookWhole {T : Type 0} (may_fail : LinkCall → LinkFault → Type 0)
   pub whole : turn.n ≡ length (outs_at effects t turn.entry)
   pub stopping : stops (outs_at effects t turn.entry) ≡ ends
 
--- a run was broken off: no event came, or not all of its effects were given, each only where that may be
+-- a run was broken off, each only where that may be: no event came, or not all of its effects were given, and of the next one nothing or a part was taken
 pub data TookPart {T : Type 0} (may_fail : LinkCall → LinkFault → Type 0) (may_ask may_give : Type 0) (next : Bool → T → Event → T) (effects : Bool → T → Event → List Action) (may_lack : T → Event → Lack → Type 0)
-    (Stands : T → Type 0) (Told_before Told : List Round → Type 0) (t : T) (before now : Tally) : Type 0 where
-  NoEvent : may_ask → TookNone Stands Told_before Told t before now → TookPart may_fail may_ask may_give next effects may_lack Stands Told_before Told t before now
-  NotAll : may_give → (turn : TookTurn may_fail next effects may_lack Stands Told_before Told t before now) → turn.n < length (outs_at effects t turn.entry) → TookPart may_fail may_ask may_give next effects may_lack Stands Told_before Told t before now
+    (Stands : T → Type 0) (Told_before Told : Option Action → List Round → Type 0) (t : T) (before now : Tally) : Type 0 where
+  NoEvent : may_ask → TookNone Stands (Told_before None) (Told None) t before now → TookPart may_fail may_ask may_give next effects may_lack Stands Told_before Told t before now
+  NotAll : may_give → (part : Option Action) → (turn : TookTurn may_fail next effects may_lack Stands (Told_before None) (Told part) t before now) → part ≡ slice_get (outs_at effects t turn.entry) turn.n →
+    turn.n < length (outs_at effects t turn.entry) → TookPart may_fail may_ask may_give next effects may_lack Stands Told_before Told t before now
 
 -- what a turn came to, by its answer
-abbrev pub Turned : {T : Type 0} → (LinkCall → LinkFault → Type 0) → Option Outcome → (Bool → T → Event → T) → (Bool → T → Event → List Action) → (T → Event → Lack → Type 0) → (T → Type 0) → (List Round → Type 0) → (List Round → Type 0) → T → Tally → Tally → Type 0
-Turned may_fail None next effects may_lack Stands Told_before Told t before now = TookWhole may_fail next effects may_lack Stands Told_before Told t before now false
-Turned may_fail (Some outcomes.Stopped) next effects may_lack Stands Told_before Told t before now = TookWhole may_fail next effects may_lack Stands Told_before Told t before now true
+abbrev pub Turned : {T : Type 0} → (LinkCall → LinkFault → Type 0) → Option Outcome → (Bool → T → Event → T) → (Bool → T → Event → List Action) → (T → Event → Lack → Type 0) → (T → Type 0) → (Option Action → List Round → Type 0) → (Option Action → List Round → Type 0) → T → Tally → Tally → Type 0
+Turned may_fail None next effects may_lack Stands Told_before Told t before now = TookWhole may_fail next effects may_lack Stands (Told_before None) (Told None) t before now false
+Turned may_fail (Some outcomes.Stopped) next effects may_lack Stands Told_before Told t before now = TookWhole may_fail next effects may_lack Stands (Told_before None) (Told None) t before now true
 Turned may_fail (Some outcomes.TurnsSpent) next effects may_lack Stands Told_before Told t before now = ⊥
 Turned may_fail (Some (outcomes.Fault fault)) next effects may_lack Stands Told_before Told t before now = TookPart may_fail (may_fail Asking fault) (may_fail Giving fault) next effects may_lack Stands Told_before Told t before now
 Turned may_fail (Some outcomes.Memory) next effects may_lack Stands Told_before Told t before now = TookPart may_fail (Unit {0}) (Unit {0}) next effects may_lack Stands Told_before Told t before now

@@ -3,7 +3,6 @@ use Rattle.std.specs.Prelude.{◌≡◌, ℕ, zero, suc, Bool, true, false, List
 use Rattle.vpn_base.specs.Answers.{Rose}
 use Rattle.vpn_base.specs.Files.{Holding, Absent, IsMissing}
 use Rattle.vpn_base.specs.declared.names.Role.TheVariants as roles
-use Rattle.vpn_links.specs.declared.links.LinkFault.{LinkFault}
 use Rattle.vpn_links.specs.declared.links.LinkFault.TheVariants as faults
 use Rattle.vpn_node.specs.declared.outcome.Outcome.{Outcome}
 use Rattle.vpn_node.specs.declared.outcome.Outcome.TheVariants as outcomes

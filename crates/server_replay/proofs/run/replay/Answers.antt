@@ -17,7 +17,7 @@ returns-clause-run g c =
     c.taken_apart.result.out c.taken_apart.result.ended c.taken_apart.result.is_cut c.taken_apart.result.ran p.parts.1 p.end.0 p.end.1 p.ran
     c.new-links.ensures.stands c.new-links.ensures.backing s.origin s.run c.a_whole_schedule_ends_the_program.ensures
     (record { told = c.only_the_end_stops.ensures.told; only = c.only_the_end_stops.ensures.only; counted = c.only_the_end_stops.ensures.counted })
-    (takes_all (with_start MayFail) (table_begun c.args.settings c.args.key.0) s.run.entries c.serve-links.result.1.outcome (given_in s.run.rounds) refl refl s.run.ended)
+    (takes_all (with_start MayFail) (table_begun c.args.settings c.args.key.0) s.run.entries c.serve-links.result.1.outcome (given_in s.run.rounds) s.run.part refl refl s.run.ended)
 
 pub returns-clause-broke : goal.returns-clause-broke
 returns-clause-broke g c =

@@ -1,6 +1,6 @@
 use Rattle.std.proofs.Common.{take, ap, sym, ◌∙◌, ◌||◌, arith}
-use Rattle.vpn_links.specs.Actions.{action}
-use Rattle.vpn_node.specs.Running.{is_stop, not_learned, one_if, stops}
+use Rattle.vpn_links.specs.Actions.{action, is_stop, stops}
+use Rattle.vpn_node.specs.Running.{not_learned, one_if}
 use Rattle.vpn_node.proofs.Lists.{any_one, not_learned_one, take_next}
 use Rattle.vpn_node.proofs.run.look.Goals as goal
 

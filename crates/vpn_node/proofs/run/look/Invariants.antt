@@ -1,5 +1,6 @@
 use Rattle.std.proofs.Common.{◌≡◌, ◌≤◌, length, take}
-use Rattle.vpn_node.specs.Running.{not_learned, stops}
+use Rattle.vpn_links.specs.Actions.{stops}
+use Rattle.vpn_node.specs.Running.{not_learned}
 use Rattle.vpn_node.proofs.run.look.Given as goal
 
 abbrev pub invariant-loop-i : goal.invariant-loop-i

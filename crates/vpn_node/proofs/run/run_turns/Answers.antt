@@ -1,4 +1,4 @@
-use Rattle.std.proofs.Common.{◌∙◌, refl, arith}
+use Rattle.std.proofs.Common.{◌∙◌, refl, arith, None}
 use Rattle.vpn_node.proofs.Ends.{course_begun, course_on, run_ended}
 use Rattle.vpn_node.proofs.run.run_turns.Goals as goal
 
@@ -7,7 +7,7 @@ loop-tally-init g c =
     let m = g.M.Machine in
     record {
       within = omega arith;
-      going = λ t stands. course_begun g.L.Links.may_fail m.next m.effects m.may_lack (m.stands c.args.machine.now) (g.L.Links.stands c.args.links.now) t stands;
+      going = λ t stands. course_begun g.L.Links.may_fail m.next m.effects m.may_lack (m.stands c.args.machine.now) (g.L.Links.stands c.args.links.now None) t stands;
       never_falls = λ k. omega arith;
       started = refl;
       origin = refl;
@@ -22,7 +22,7 @@ loop-tally-preserved g c =
       going = λ t stands.
           let going = c.loop-tally.invariant.going t stands in
           course_on links.may_fail m.next m.effects m.may_lack (m.stands c.loop-tally.machine) (m.stands c.take_turn.new.machine)
-          (links.stands c.args.links.now) (links.stands c.loop-tally.links) (links.stands c.take_turn.new.links) t c.loop-tally.tally c.take_turn.new.tally
+          (links.stands c.args.links.now None) (links.stands c.loop-tally.links None) (links.stands c.take_turn.new.links None) t c.loop-tally.tally c.take_turn.new.tally
           going (c.in_default.ensures.turned _ going.course.stands);
       never_falls = λ k. omega (arith, c.loop-tally.invariant.never_falls k, c.in_default.ensures.never_falls k);
       started = c.in_default.ensures.started ∙ c.loop-tally.invariant.started;

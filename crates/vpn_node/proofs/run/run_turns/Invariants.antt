@@ -1,4 +1,4 @@
-use Rattle.std.proofs.Common.{◌≡◌, ◌≤◌, ◌-◌}
+use Rattle.std.proofs.Common.{◌≡◌, ◌≤◌, ◌-◌, None}
 use Rattle.vpn_links.specs.declared.links.LinkFault.{LinkFault}
 use Rattle.vpn_node.specs.internal.Turns.{Going}
 use Rattle.vpn_node.proofs.run.run_turns.Given as goal
@@ -9,7 +9,7 @@ invariant-loop-tally g l =
     let links = g.L.Links in
     record {
       within : l.tally.events ≤ l.turns;
-      going : (t : m.Table) → m.stands l.fn.machine t → Going links.may_fail m.next m.effects m.may_lack (m.stands l.machine) (links.stands l.fn.links) (links.stands l.links) t l.tally;
+      going : (t : m.Table) → m.stands l.fn.machine t → Going links.may_fail m.next m.effects m.may_lack (m.stands l.machine) (links.stands l.fn.links None) (links.stands l.links None) t l.tally;
       never_falls : (k : LinkFault) → links.faults l.fn.links k ≤ links.faults l.links k;
       started : links.started l.links ≡ links.started l.fn.links;
       origin : links.origin_of l.links ≡ links.origin_of l.fn.links;

@@ -1,5 +1,5 @@
-use Rattle.std.proofs.Common.{◌≡◌, ◌∙◌, ℕ, List, sym, subst}
-use Rattle.std.specs.Prelude.{Option, Some, None}
+use Rattle.std.proofs.Common.{◌∙◌, ℕ, List, sym, subst}
+use Rattle.std.specs.Prelude.{Some, None}
 use Rattle.vpn_base.specs.Files.{Holding}
 use Rattle.server_replay.specs.Replays.{IsReplay}
 use Rattle.server_table.specs.Table.{table_begun}
@@ -43,5 +43,5 @@ returns-in-None-clause-ran g c = λ holds config files_before err same since loa
     let good = run_ended c.a_long_file_is_refused_where_it_passes_its_limit.ensures c.runs_keep_the_promise.ensures held config c.args.schedule.now c.args.loaded before now now p.ended p.is_cut p.ran
     files (g.F.Files.faults c.args.files) (g.S.Sink.faults c.args.out, out_mid) err is r None (sym c.in-None.is ∙ c.refusal_by.ensures) e.broke e.cut since in
     done_end c.a_long_file_is_refused_where_it_passes_its_limit.ensures c.runs_keep_the_promise.ensures held config c.args.schedule.now c.args.loaded before now after p.ended p.is_cut p.ran
-    files (g.F.Files.faults c.args.files) out err is r c.write_done-refusal.result out_mid good c.write_done-refusal.ensures.done e.out)
+    files (g.F.Files.faults c.args.files) out err is r c.only_the_end_stops.ensures.stop c.write_done-refusal.result out_mid good c.write_done-refusal.ensures.done e.out)
     loaded

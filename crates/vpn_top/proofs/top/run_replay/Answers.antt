@@ -1,6 +1,5 @@
 use Rattle.std.proofs.Common.{◌≡◌, ℕ, List, refl, sym, subst}
-use Rattle.std.specs.Prelude.{Option, Some, None}
-use Rattle.vpn_base.specs.Files.{Holding}
+use Rattle.std.specs.Prelude.{Option, Some}
 use Rattle.vpn_top.specs.Answer.{Told}
 use Rattle.vpn_top.specs.Replay.{RanReplay}
 use Rattle.vpn_top.specs.Written.{Run}

@@ -1,8 +1,10 @@
 use Rattle.std.proofs.Common.{◌≡◌, ℕ, sym, subst}
 use Rattle.std.specs.Prelude.{◌⊎◌, Option}
 use Rattle.vpn_base.specs.Answers.{Rose}
+use Rattle.replay_links.specs.Schedule.{spells}
 use Rattle.vpn_top.specs.Words.{Command}
 use Rattle.vpn_top.specs.Answer.{IsCutOff, Ran}
+use Rattle.vpn_top.specs.Replay.{HoldHalt}
 use Rattle.vpn_top.specs.Written.{Run}
 use Rattle.vpn_top.proofs.CheckEnds.{checked_end}
 use Rattle.vpn_top.proofs.ReplayEnds.{keyless_by, lacking_end, misconfigured_end, miskeyed_by, not_server_end, refused_end, replayed_end, unscheduled_end}
@@ -101,7 +103,7 @@ returns-clause-refused g c = λ config schedule text s given is role keyed told 
     let err : ℕ × ℕ = (g.E.Sink.faults c.args.outside.err, g.E.Sink.faults c.run-refusal.new.err) in
     let run : Run = record { before = g.S.Sink.contents c.args.outside.out; after = g.S.Sink.contents c.run-refusal.result.2; files = files; out = out; err = err } in
     let ran = subst (λ (x : Option Command). Ran x holds c.run-refusal.result.0 fin.subject run) given fin.ran in
-    subst (λ (n : ℕ). (n ≡ 5) ⊎ (n ≡ 0) ⊎ ((n ≡ 3) × Rose files.0 files.1) ⊎ IsCutOff n out err) (sym c.exit_status.ensures)
+    subst (λ (n : ℕ). (n ≡ 5) ⊎ ((n ≡ 0) × HoldHalt (spells text).events) ⊎ ((n ≡ 3) × Rose files.0 files.1) ⊎ IsCutOff n out err) (sym c.exit_status.ensures)
     (refused_end holds config schedule fin.subject text s c.run-refusal.result.0 run ran is role keyed told few)
 
 pub returns-clause-unscheduled : goal.returns-clause-unscheduled
