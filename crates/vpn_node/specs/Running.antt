@@ -164,7 +164,7 @@ cut_last n (actions ∷ more ∷ outs) = actions ∷ cut_last n (more ∷ outs)
 pub data BrokeOff (may_ask may_give : Type 0) (turns : ℕ) (outs given : List (List Action)) (part : Option Action) : Type 0 where
   Between : may_ask → given ≡ outs → part ≡ None → IsTrue (goes_on outs) → length outs < turns → BrokeOff may_ask may_give turns outs given part
   Within : may_give → (n : ℕ) → given ≡ cut_last n outs → part ≡ slice_get (last_of outs) n → n < length (last_of outs) → IsTrue (stops_only_last outs) → length outs ≤ turns →
-    BrokeOff may_ask may_give turns outs given part
+      BrokeOff may_ask may_give turns outs given part
 
 -- how a run of at most so many events ended, over an outside whose calls may answer these faults, by what its events do, what was given of it, and the effect of which only a part was taken
 abbrev pub Ends : (LinkCall → LinkFault → Type 0) → Outcome → ℕ → List (List Action) → List (List Action) → Option Action → Type 0

@@ -261,8 +261,7 @@ module _ (law : LongLaw) (promise : (settings : Settings) (key : List ℕ) (entr
         ∙ ap (λ (n : ℕ). appended before (transcript (outs_in served) ++ done_line n)) r.events));
   }
   done_end stop (Some refusals.Output) out_mid good printed since =
-      let front = take printed.1.length (done_line (length r.entries)) in
-      (
+      let front = take printed.1.length (done_line (length r.entries)) in (
         inl (rose_since out.0 out_mid out.1 since printed.0),
         inr (front_of (this_run after) served (transcript (outs_in served) ++ front)
             (printed.1.is ∙ (ap (λ (held : Option (List ℕ)). appended held (take printed.1.length (done_line ran.events))) (whole_lines good.0 good.1)

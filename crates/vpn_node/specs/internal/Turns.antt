@@ -103,7 +103,7 @@ pub data TookPart {T : Type 0} (may_fail : LinkCall → LinkFault → Type 0) (m
     (Stands : T → Type 0) (Told_before Told : Option Action → List Round → Type 0) (t : T) (before now : Tally) : Type 0 where
   NoEvent : may_ask → TookNone Stands (Told_before None) (Told None) t before now → TookPart may_fail may_ask may_give next effects may_lack Stands Told_before Told t before now
   NotAll : may_give → (part : Option Action) → (turn : TookTurn may_fail next effects may_lack Stands (Told_before None) (Told part) t before now) → part ≡ slice_get (outs_at effects t turn.entry) turn.n →
-    turn.n < length (outs_at effects t turn.entry) → TookPart may_fail may_ask may_give next effects may_lack Stands Told_before Told t before now
+      turn.n < length (outs_at effects t turn.entry) → TookPart may_fail may_ask may_give next effects may_lack Stands Told_before Told t before now
 
 -- what a turn came to, by its answer
 abbrev pub Turned : {T : Type 0} → (LinkCall → LinkFault → Type 0) → Option Outcome → (Bool → T → Event → T) → (Bool → T → Event → List Action) → (T → Event → Lack → Type 0) → (T → Type 0) → (Option Action → List Round → Type 0) → (Option Action → List Round → Type 0) → T → Tally → Tally → Type 0
