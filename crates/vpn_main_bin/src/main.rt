@@ -9,9 +9,9 @@ use crate::sinks::Stream;
 use std::process::ExitCode;
 use std::rt::Runtime;
 use std::{env, io};
-use vpn_top::{Outside, vpn_main};
+use vpn_top::{Outside, no_memory, vpn_main};
 
-// The words after the program's name. Where a word is no text, they are those of no command.
+// The words after the program's name.
 fn words<R: Runtime + AllocGlobal>(rt: &R) -> Result<Vec<String>, io::Error> {
     let mut words = Vec::new(rt.alloc());
     for word in env::args(rt)?.skip(1) {
@@ -21,11 +21,16 @@ fn words<R: Runtime + AllocGlobal>(rt: &R) -> Result<Vec<String>, io::Error> {
 }
 
 fn main(rt: HostRuntime) -> ExitCode {
+    let errors = rt.stderr();
     let words = match words(&rt) {
         Ok(words) => words,
+        Err(error) if error.kind() == io::ErrorKind::OutOfMemory => {
+            let mut err = Stream::new(io::writer(&errors));
+            return ExitCode::from(no_memory(rt.alloc(), &mut err));
+        }
+        // A word that is no text is one of no command.
         Err(_) => Vec::new(rt.alloc()),
     };
-    let errors = rt.stderr();
     let outside = Outside {
         files: HostFiles::new(rt.alloc(), &rt),
         out: Stream::new(io::writer(&rt)),

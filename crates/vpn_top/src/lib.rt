@@ -11,7 +11,7 @@ mod top;
 mod writing;
 
 pub use refusal::Refusal;
-pub use top::{Outside, vpn_main};
+pub use top::{Outside, no_memory, vpn_main};
 
 #[cfg(test)]
 mod tests;

@@ -98,6 +98,14 @@ fn exit_status(refusal: Option<Refusal>) -> u8
     }
 }
 
+/// Tells that memory is short where there was none for the words themselves, and answers the exit status.
+pub fn no_memory<E: Sink>(alloc: Global, err: &mut E) -> u8
+    ensures { (result ≡ 8) ⊎ ((result ≡ 6) × Rose (E.faults err.old) (E.faults err.new)) }
+{
+    let told = tell(alloc, Refusal::NoMemory, b"", err);
+    exit_status(Some(told))
+}
+
 // Carries out `route`, and answers the refusal that was told.
 fn run_route<F: Files, S: Sink, E: Sink>(
     alloc: Global,
