@@ -103,6 +103,3 @@ impl Pool {
         count_down(&mut self.counts, a.0);
     }
 }
-
-#[cfg(test)]
-mod tests;

@@ -57,6 +57,3 @@ pub fn write_addr(text: &mut Vec<u8>, a: Addr) -> Result<(), NoMemory>
     text.extend_from_slice(port.format(a.port).as_bytes())?;
     Ok(())
 }
-
-#[cfg(test)]
-mod tests;

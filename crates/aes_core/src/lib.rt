@@ -11,8 +11,6 @@ mod rounds;
 mod schedule;
 mod shared;
 mod tables;
-#[cfg(test)]
-mod tests;
 mod words;
 
 use counter::{counter_block, xor_block, xor_front};

@@ -7,6 +7,3 @@ mod reading;
 
 pub use client_file::Ccd;
 pub use reading::read_ccd;
-
-#[cfg(test)]
-mod tests;

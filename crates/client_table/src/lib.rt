@@ -14,6 +14,3 @@ pub use calls::Full;
 pub use key::Key;
 pub use laws::{lending_sets_the_value, no_more_are_here_than_may_be, peer_ids_are_the_least_free};
 pub use table::ClientTable;
-
-#[cfg(test)]
-mod tests;

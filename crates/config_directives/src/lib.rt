@@ -19,6 +19,3 @@ pub use keyword::{Keyword, keyword_of, table};
 pub use lines::{FileDirectives, read_directives};
 pub use names::is_for_engine;
 pub use numbers::{NumberDirective, NumberRange};
-
-#[cfg(test)]
-mod tests;

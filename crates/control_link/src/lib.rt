@@ -15,6 +15,3 @@ pub use laws::{reads_a_front, reads_what_is_given};
 pub use link::{ControlLink, LinkEnd};
 pub use runs::{LinkEvent, LinkRun, LinkSetup, run_link};
 pub use wraps::judge_wraps;
-
-#[cfg(test)]
-mod tests;

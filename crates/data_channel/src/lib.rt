@@ -9,6 +9,3 @@ mod runs;
 pub use channel::{DataChannel, DataFault};
 pub use laws::channels_are_of_keys;
 pub use runs::{ChannelAnswer, ChannelEvent, ChannelSetup, run_channel};
-
-#[cfg(test)]
-mod tests;

@@ -3,8 +3,6 @@
 
 mod aead;
 mod gcm;
-#[cfg(test)]
-mod tests;
 
 pub use aead::{Aead, NotSealed};
 pub use gcm::{AnyGcm, Gcm128, Gcm256};

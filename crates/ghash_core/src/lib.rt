@@ -5,8 +5,6 @@
 mod field;
 mod hash_key;
 mod hasher;
-#[cfg(test)]
-mod tests;
 
 pub use field::mul;
 pub use hash_key::HashKey;

@@ -9,6 +9,3 @@ mod pseudorandom;
 pub use derivation::{KeyBlock, expand, master};
 pub use hmac::{HmacSha256, hmac_md5, hmac_sha1, hmac_sha256};
 pub use pseudorandom::prf;
-
-#[cfg(test)]
-mod tests;

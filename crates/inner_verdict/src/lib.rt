@@ -106,6 +106,3 @@ pub fn verdict_on<L: Ledger>(
         }
     }
 }
-
-#[cfg(test)]
-mod tests;

@@ -68,6 +68,3 @@ impl<'a> Inner<'a> {
         read_address(self.packet, 16)
     }
 }
-
-#[cfg(test)]
-mod tests;

@@ -15,11 +15,8 @@ mod text;
 
 pub use laws::{sessions_are_changed_one_by_one, sessions_are_open_without_keys};
 pub use name::NameFault;
-pub use runs::{SlotAnswer, SlotEvent, SlotSetup, run_slots};
+pub use runs::{BareText, SlotAnswer, SlotEvent, SlotSetup, run_slots};
 pub use session::{KeySession, Keyed, Named, NoCipher, Opening, cipher_chosen, kid_of};
 pub use slot::{Newest, SessionSeen, Stage};
 pub use slots::Slots;
 pub use text::SessionText;
-
-#[cfg(test)]
-mod tests;

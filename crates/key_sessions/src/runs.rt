@@ -88,10 +88,11 @@ pub struct SlotSetup {
     pub server_sid: Sid,
 }
 
-// A text that is no more than its engine connection.
+/// A text that is no more than its engine connection.
 #[derive(Drop)]
-pub(crate) struct BareText {
-    pub(crate) conn: Conn,
+pub struct BareText {
+    /// The engine connection.
+    pub conn: Conn,
 }
 
 impl ControlText for BareText {

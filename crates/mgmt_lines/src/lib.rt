@@ -14,6 +14,3 @@ pub use texts::{
     name_not_found, own_count_line, queued_line, seconds_of, status_client, status_route,
     time_line,
 };
-
-#[cfg(test)]
-mod tests;

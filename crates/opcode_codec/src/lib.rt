@@ -9,6 +9,3 @@ mod packets;
 pub use control::{ControlView, read_control, write_control};
 pub use opcodes::{Opcode, first_byte};
 pub use packets::{DataView, Packet, read_packet, write_data_head};
-
-#[cfg(test)]
-mod tests;

@@ -15,6 +15,3 @@ pub use laws::{
 pub use reading::read_config;
 pub use settings::{KeyPlace, Settings};
 pub use writing::write_config;
-
-#[cfg(test)]
-mod tests;

@@ -11,6 +11,3 @@ pub use long_windows::LongWindow;
 pub use runs::{accepts_ids_once, accepts_wrap_ids_once, judge_ids, judge_wrap_ids};
 pub use sending::{SendIds, Spent};
 pub use windows::Window;
-
-#[cfg(test)]
-mod tests;

@@ -13,6 +13,3 @@ mod reading;
 pub use blank::SessionBlank;
 pub use channels::SessionChannels;
 pub use laws::{channels_stand_on, links_go_on};
-
-#[cfg(test)]
-mod tests;

@@ -9,6 +9,3 @@ mod received;
 pub use collector::{Collector, PushFault, Pushed, collects_a_reply};
 pub use options::{PushPlan, plan};
 pub use parts::reply;
-
-#[cfg(test)]
-mod tests;

@@ -7,6 +7,3 @@ mod runs;
 
 pub use receiving::{Got, RecvSide};
 pub use runs::{read_all, reads_a_prefix, reads_in_order, reads_packets};
-
-#[cfg(test)]
-mod tests;

@@ -11,6 +11,3 @@ pub use laws::{due_shrinks, few_are_ready, ready_shrinks, timeout_is_kept};
 pub use pieces::Piece;
 pub use runs::{SendingEvent, run_sending};
 pub use side::{SendSide, TextFull};
-
-#[cfg(test)]
-mod tests;

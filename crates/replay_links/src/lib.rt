@@ -15,6 +15,3 @@ pub use links::{
     a_whole_schedule_ends_the_program,
 };
 pub use reading::{LONGEST_FILE, LineFault};
-
-#[cfg(test)]
-mod tests;

@@ -137,6 +137,3 @@ impl RouteTable {
         self.hosts.get(i).copied()
     }
 }
-
-#[cfg(test)]
-mod tests;

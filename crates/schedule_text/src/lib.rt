@@ -21,6 +21,3 @@ pub use event_reading::read_event_line;
 pub use kind::TextKind;
 pub use reading::read_route_line;
 pub use route_line::{GREATEST_PEER, LONGEST_LINE, LONGEST_SEAL, LONGEST_UNSEAL, RouteLine};
-
-#[cfg(test)]
-mod tests;

@@ -3,8 +3,6 @@
 
 mod head;
 mod packets;
-#[cfg(test)]
-mod tests;
 
 pub use packets::{
     open_packet, opening_is_what_opens, opens_once, opens_what_was_sealed, seal_packet,

@@ -5,6 +5,3 @@ mod run;
 mod serve;
 
 pub use run::{Replayed, replay};
-
-#[cfg(test)]
-mod tests;

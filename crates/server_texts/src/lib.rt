@@ -11,6 +11,3 @@ mod told;
 pub use laws::replies_are_planned;
 pub use replies::ReplyAhead;
 pub use told::{DISCONNECT_BYTES, establishing_room, say_disconnect, say_establishing};
-
-#[cfg(test)]
-mod tests;

@@ -4,6 +4,3 @@
 mod runs;
 
 pub use runs::{SessionAnswer, SessionEvent, SessionSetup, run_session};
-
-#[cfg(test)]
-mod tests;

@@ -7,6 +7,3 @@ mod reader;
 
 pub use frames::{Frame, FrameFault, write_frame};
 pub use reader::{FrameReader, Frames, read_frames, what_is_read_stays};
-
-#[cfg(test)]
-mod tests;

@@ -14,6 +14,3 @@ pub use header::Header;
 pub use static_key::{KeyFault, KeyKind, StaticKey, read_static_key};
 pub use wrapper::{Wrapper, unwraps_what_the_other_end_wrapped};
 pub use wrapping::{Opened, Unwrap, Wrap, unwrapping_is_what_unwraps};
-
-#[cfg(test)]
-mod tests;

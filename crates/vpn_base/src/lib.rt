@@ -29,6 +29,3 @@ pub use number::{read_number, reads_decimal_again};
 pub use outside::{Failed, FileFault, Files, Sink};
 pub use steps::Steps;
 pub use writing::{reads_ip4_again, write_at, write_ip4};
-
-#[cfg(test)]
-mod tests;

@@ -20,6 +20,3 @@ pub use machine::Machine;
 pub use mem_links::MemLinks;
 pub use notes::Note;
 pub use outbox::Outbox;
-
-#[cfg(test)]
-mod tests;

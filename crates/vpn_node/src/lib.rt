@@ -8,6 +8,3 @@ mod run;
 
 pub use node::{Closed, Ended, Node, Serving};
 pub use outcome::{Outcome, Ran};
-
-#[cfg(test)]
-mod tests;

@@ -14,6 +14,3 @@ pub use laws::reads_no_control;
 pub use mask::{read_mask, read_network, reads_mask_again, write_mask};
 pub use quoting::{is_push_text, reads_words_again, write_word};
 pub use words::{LineFault, LineKind, is_blank, is_control, read_line};
-
-#[cfg(test)]
-mod tests;

@@ -12,6 +12,3 @@ mod writing;
 
 pub use refusal::Refusal;
 pub use top::{Outside, no_memory, vpn_main};
-
-#[cfg(test)]
-mod tests;

@@ -1,4 +1,0 @@
-use Rattle.route_table.proofs.tests.owner_in.Given as goal
-
-abbrev pub ghosts-owner_of : goal.ghosts-owner_of
-ghosts-owner_of a = record { name = a.blank.name; parts = a.blank.parts }
