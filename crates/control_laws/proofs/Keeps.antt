@@ -19,31 +19,7 @@ use Rattle.control_laws.proofs.Lines.{ItemPut, Line, LinePut, changed_put, clien
 use Rattle.control_laws.proofs.Kept.{Before, Kept, KeptParts, begun_line, lines_kept, quiet_kept}
 use Rattle.control_laws.proofs.Begins.{begins_kept}
 use Rattle.control_laws.proofs.Calls.{BeginsLine, IsQuietCall, are_still, still_opened, still_quiet}
-
--- ---- the client of a number
-
--- the client of a number that is here
-pub record IsHereAt (clients : List Client) (n : ℕ) (x : Client) : Type 0 where
-  pub there : slice_get clients n ≡ Some x
-  pub here : x.is_here ≡ true
-
-if_here_is : (y : Client) (b : Bool) → y.is_here ≡ b → (x : Client) → (if b then Some y else None) ≡ Some x → (y ≡ x) × (y.is_here ≡ true)
-if_here_is y true is x e = (some_same e, is)
-if_here_is y false is x e = absurd (none_some e)
-
-here_of : (clients : List Client) (n : ℕ) (x : Client) (o : Option Client) → slice_get clients n ≡ o → if_here o ≡ Some x → IsHereAt clients n x
-here_of clients n x None there e = absurd (none_some e)
-here_of clients n x (Some y) there e =
-    let h = if_here_is y y.is_here refl x e in
-    record { there = there ∙ ap (λ (y : Client). Some y) h.0; here = subst (λ (y : Client). y.is_here ≡ true) h.0 h.1 }
-
-pub here_at : (t : Table) (n : ℕ) (x : Client) → client_here t n ≡ Some x → IsHereAt t.clients n x
-unfolding client_here
-here_at t n x e = here_of t.clients n x (slice_get t.clients n) refl e
-
--- what holds of the client there holds of any that stands there
-pub at_place : (P : Client → Type 0) (clients : List Client) (n : ℕ) (x : Client) → slice_get clients n ≡ Some x → P x → (y : Client) → slice_get clients n ≡ Some y → P y
-at_place P clients n x there is y at = subst P (some_same (sym there ∙ at)) is
+use Rattle.server_table.proofs.Keeps.{here_at, at_place}
 
 -- ---- lines of clients
 

@@ -31,7 +31,8 @@ use Rattle.control_laws.proofs.Actions.{none_some, some_same}
 use Rattle.control_laws.proofs.Lines.{LinePut, client_lines, get_changed, get_last, get_past, joined_put, line_in, lines_of, map_append, map_changed}
 use Rattle.control_laws.proofs.Kept.{Before, Kept, begun_line}
 use Rattle.control_laws.proofs.Begins.{begins_kept}
-use Rattle.control_laws.proofs.Keeps.{at_place, did_kept, here_at, with_session}
+use Rattle.server_table.proofs.Keeps.{at_place, here_at}
+use Rattle.control_laws.proofs.Keeps.{did_kept, with_session}
 use Rattle.control_laws.proofs.KeptTaking.{to_client_kept}
 use Rattle.control_laws.proofs.Placed.{FoundLive, FoundNext, IsFound, begins_parts, first_is, found_placed, none_passes, placed_kid}
 

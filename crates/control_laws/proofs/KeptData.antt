@@ -21,7 +21,8 @@ use Rattle.server_table.specs.DataDatagrams.{FromWire, accepted, carried, carrie
 use Rattle.control_laws.proofs.Calls.{opened_lines}
 use Rattle.control_laws.proofs.Lines.{client_lines, lines_in}
 use Rattle.control_laws.proofs.Kept.{Before, Kept, quiet_kept}
-use Rattle.control_laws.proofs.Keeps.{at_place, changed_kept, did_kept, here_at, same_kept}
+use Rattle.server_table.proofs.Keeps.{at_place, here_at}
+use Rattle.control_laws.proofs.Keeps.{changed_kept, did_kept, same_kept}
 use Rattle.control_laws.proofs.KeptPackets.{learned_kept, queued_kept, sealed_kept}
 
 module _ {brought : ℕ → ℕ → Arrival → Type 0} {base : Before} where

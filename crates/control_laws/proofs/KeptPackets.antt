@@ -13,7 +13,8 @@ use Rattle.server_table.specs.Lookups.{cid, client_here}
 use Rattle.server_table.specs.Courses.{Course}
 use Rattle.server_table.specs.InnerPackets.{dequeued, device_ready, is_host_of, learned, learned_unless_lacking, learned_where, most_queued, queued, queued_unless_full, sealed_as, sealed_for, sealed_to, with_sent}
 use Rattle.control_laws.proofs.Kept.{Before, Kept, quiet_kept}
-use Rattle.control_laws.proofs.Keeps.{at_place, changed_kept, did_kept, here_at}
+use Rattle.server_table.proofs.Keeps.{at_place, here_at}
+use Rattle.control_laws.proofs.Keeps.{changed_kept, did_kept}
 use Rattle.control_laws.proofs.Lines.{client_lines, lines_in}
 use Rattle.control_laws.proofs.Calls.{sealed_lines}
 

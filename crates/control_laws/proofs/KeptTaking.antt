@@ -28,7 +28,8 @@ use Rattle.control_laws.proofs.Came.{Began, ControlCame, NotTaken, Took, what_ca
 use Rattle.control_laws.proofs.Lines.{ItemPut, both_put, changed_put, get_changed, get_last, get_map, line_at, line_of, lines_in, lines_of, map_put}
 use Rattle.control_laws.proofs.Kept.{Before, Kept, begun_line, takes_kept}
 use Rattle.control_laws.proofs.Begins.{begins_kept}
-use Rattle.control_laws.proofs.Keeps.{acted_put, count_kept, did_kept, effects_kept, here_at, line_put, line_there, quiet_acted, same_kept, with_session}
+use Rattle.server_table.proofs.Keeps.{here_at}
+use Rattle.control_laws.proofs.Keeps.{acted_put, count_kept, did_kept, effects_kept, line_put, line_there, quiet_acted, same_kept, with_session}
 use Rattle.control_laws.proofs.KeptEndings.{turned_kept}
 use Rattle.control_laws.proofs.Placed.{FoundLive, FoundNext, IsFound}
 use Rattle.control_laws.proofs.Takes.{puts_opened, takes_line}

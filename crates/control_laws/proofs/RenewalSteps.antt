@@ -27,7 +27,7 @@ use Rattle.server_table.specs.Time.{client_ticked, clients_ticked, counts_are_du
 use Rattle.control_laws.specs.Renewals.{AreDue}
 use Rattle.control_laws.proofs.Actions.{none_some, some_same}
 use Rattle.control_laws.proofs.Calls.{sealed_lines}
-use Rattle.control_laws.proofs.Keeps.{here_at}
+use Rattle.server_table.proofs.Keeps.{here_at}
 use Rattle.control_laws.proofs.Lines.{get_changed, line_of}
 use Rattle.control_laws.proofs.Lost.{is_here_at}
 use Rattle.control_laws.proofs.Renewals.{idle_ends, keys_renewed}

@@ -49,10 +49,13 @@ none_texts most l some none = ap (λ (n : ℕ). texts_here n l) (less most some)
 pub one_read : (most : ℕ) (l : Link) (payload : List ℕ) → most ≢ 0 → next_text l ≡ Some payload → read_here most l ≡ read_here (most - 1) (after_text l)
 one_read most l payload some here = ap (λ (n : ℕ). read_here n l) (less most some) ∙ read_next (most - 1) l (Some payload) here
 
-pub one_text : (most : ℕ) (l : Link) (payload bytes : List ℕ) → most ≢ 0 → next_text l ≡ Some payload → (bytes ++ payload) ++ concat (texts_here (most - 1) (after_text l)) ≡ bytes ++ concat (texts_here most l)
-one_text most l payload bytes some here =
+pub one_text : (most : ℕ) (l : Link) (payload : List ℕ) → most ≢ 0 → next_text l ≡ Some payload → texts_here most l ≡ payload ∷ texts_here (most - 1) (after_text l)
+one_text most l payload some here = ap (λ (n : ℕ). texts_here n l) (less most some) ∙ texts_next (most - 1) l (Some payload) here
+
+pub one_behind : (most : ℕ) (l : Link) (payload bytes : List ℕ) → most ≢ 0 → next_text l ≡ Some payload → (bytes ++ payload) ++ concat (texts_here (most - 1) (after_text l)) ≡ bytes ++ concat (texts_here most l)
+one_behind most l payload bytes some here =
     append_assoc bytes payload (concat (texts_here (most - 1) (after_text l)))
-    ∙ ap (λ (t : List (List ℕ)). bytes ++ concat t) (sym (ap (λ (n : ℕ). texts_here n l) (less most some) ∙ texts_next (most - 1) l (Some payload) here))
+    ∙ ap (λ (t : List (List ℕ)). bytes ++ concat t) (sym (one_text most l payload some here))
 
 -- ---- events
 

@@ -31,22 +31,3 @@ pub seen : (number before : ℕ) (first : Line) (line : List ℕ) (reached : ℕ
     → line_behind number before first ≡ line_with (number + 1) line reached
 seen number before first line reached shows sum =
     ap (λ (b : List ℕ). line_with (number + 1) b (before + size first)) shows ∙ ap (line_with (number + 1) line) sum
-
--- it ends the block, or the file grows too long in it
-pub until_found : (last line : List ℕ) (before : ℕ) (first : Line) (lines later : List Line) → lines ≡ first ∷ later → content first ≡ line
-    → true ≡ (is_over (before + size first) || bytes_eq line last) → until_end last before lines ≡ Some []
-unfolding until_end
-until_found last line before first lines later begins shows found =
-    ap (until_end last before) begins
-    ∙ ap (λ (l : List ℕ). cond (is_over (before + size first) || bytes_eq l last) (Some []) (option_map (λ (more : List ℕ). content first ++ 10 ∷ more) (until_end last (before + size first) later))) shows
-    ∙ ap (λ (b : Bool). cond b (Some []) (option_map (λ (more : List ℕ). content first ++ 10 ∷ more) (until_end last (before + size first) later))) (sym found)
-
--- it does not
-pub until_passed : (last line : List ℕ) (before : ℕ) (first : Line) (lines later : List Line) → lines ≡ first ∷ later → content first ≡ line
-    → false ≡ (is_over (before + size first) || bytes_eq line last)
-    → until_end last before lines ≡ option_map (λ (more : List ℕ). line ++ 10 ∷ more) (until_end last (before + size first) later)
-unfolding until_end
-until_passed last line before first lines later begins shows other =
-    ap (until_end last before) begins
-    ∙ ap (λ (l : List ℕ). cond (is_over (before + size first) || bytes_eq l last) (Some []) (option_map (λ (more : List ℕ). l ++ 10 ∷ more) (until_end last (before + size first) later))) shows
-    ∙ ap (λ (b : Bool). cond b (Some []) (option_map (λ (more : List ℕ). line ++ 10 ∷ more) (until_end last (before + size first) later))) (sym other)

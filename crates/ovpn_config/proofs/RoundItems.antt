@@ -19,7 +19,7 @@ use Rattle.ovpn_config.specs.Spelling.{block_text, item_text, words_text}
 use Rattle.ovpn_config.specs.Canonical.{ended, lines_with}
 use Rattle.ovpn_config.specs.internal.Laws.{Laws}
 use Rattle.ovpn_config.proofs.CleanText.{and_true, are_clean, is_clean}
-use Rattle.ovpn_config.proofs.FirstLines.{until_found, until_passed}
+use Rattle.config_directives.proofs.BlockBytes.{until_found, until_passed}
 use Rattle.ovpn_config.proofs.RoundLines.{Fits, content-line, first_fits, inside_line, lines_of-line, outside_line, written_words}
 
 -- a line that may stand within a block

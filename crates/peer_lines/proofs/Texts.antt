@@ -21,41 +21,6 @@ use Rattle.peer_table.specs.Outboxes.{actions_of}
 use Rattle.peer_lines.specs.Standing.{NoneIsLonger}
 use Rattle.peer_lines.proofs.Links.{Frame}
 
--- ---- one by one
-
-less : (n : ℕ) → n ≢ 0 → n ≡ suc (n - 1)
-less n some = omega arith
-
-pub read_no_more : (most : ℕ) (l : Link) → most ≡ 0 → read_here most l ≡ l
-unfolding read_here
-read_no_more most l none = rw none refl
-
-pub no_more_texts : (most : ℕ) (l : Link) → most ≡ 0 → texts_here most l ≡ []
-unfolding texts_here
-no_more_texts most l none = rw none refl
-
-read_next : (n : ℕ) (l : Link) (o : Option (List ℕ)) → next_text l ≡ o → read_here (suc n) l ≡ read_with o (after_text l) (read_here n (after_text l))
-unfolding read_here
-read_next n l o is = ap (λ (t : Option (List ℕ)). read_with t (after_text l) (read_here n (after_text l))) is
-
-texts_next : (n : ℕ) (l : Link) (o : Option (List ℕ)) → next_text l ≡ o → texts_here (suc n) l ≡ texts_with o (texts_here n (after_text l))
-unfolding texts_here
-texts_next n l o is = ap (λ (t : Option (List ℕ)). texts_with t (texts_here n (after_text l))) is
-
--- none is here
-pub none_read : (most : ℕ) (l : Link) → most ≢ 0 → next_text l ≡ None → read_here most l ≡ after_text l
-none_read most l some none = ap (λ (n : ℕ). read_here n l) (less most some) ∙ read_next (most - 1) l None none
-
-pub none_texts : (most : ℕ) (l : Link) → most ≢ 0 → next_text l ≡ None → texts_here most l ≡ []
-none_texts most l some none = ap (λ (n : ℕ). texts_here n l) (less most some) ∙ texts_next (most - 1) l None none
-
--- one is, and those behind it
-pub one_read : (most : ℕ) (l : Link) (payload : List ℕ) → most ≢ 0 → next_text l ≡ Some payload → read_here most l ≡ read_here (most - 1) (after_text l)
-one_read most l payload some here = ap (λ (n : ℕ). read_here n l) (less most some) ∙ read_next (most - 1) l (Some payload) here
-
-pub one_text : (most : ℕ) (l : Link) (payload : List ℕ) → most ≢ 0 → next_text l ≡ Some payload → texts_here most l ≡ payload ∷ texts_here (most - 1) (after_text l)
-one_text most l payload some here = ap (λ (n : ℕ). texts_here n l) (less most some) ∙ texts_next (most - 1) l (Some payload) here
-
 -- ---- what is put
 
 puts_first : (conn : Conn) (role : Role) (payload : List ℕ) (texts : List (List ℕ)) →

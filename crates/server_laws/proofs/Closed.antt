@@ -26,8 +26,9 @@ use Rattle.server_table.specs.ControlDatagrams.{client_begun, session_begun, wit
 use Rattle.server_table.specs.DataDatagrams.{went_to}
 use Rattle.server_laws.specs.HandedOn.{carrying}
 use Rattle.server_laws.specs.WellKept.{HaveKeys}
-use Rattle.server_laws.proofs.Places.{none_some, some_same}
+use Rattle.server_table.proofs.Places.{none_some, some_same}
 use Rattle.server_laws.proofs.CallsKeep.{CallKept, ExchangeKept}
+use Rattle.server_table.proofs.Keeps.{here_at}
 
 -- ---- clients
 
@@ -38,25 +39,6 @@ pub record ClientKept (y z : Client) : Type 0 where
   pub established : z.established ≡ y.established
   pub session : CallKept y.session z.session
   pub file : (ccd : Ccd) → y.file ≡ Known ccd → z.file ≡ Known ccd
-
--- the client of a number that is here
-pub record IsHereAt (clients : List Client) (n : ℕ) (x : Client) : Type 0 where
-  pub there : slice_get clients n ≡ Some x
-  pub here : x.is_here ≡ true
-
-if_here_is : (y : Client) (b : Bool) → y.is_here ≡ b → (x : Client) → (if b then Some y else None) ≡ Some x → (y ≡ x) × (y.is_here ≡ true)
-if_here_is y true is x e = (some_same e, is)
-if_here_is y false is x e = absurd (none_some e)
-
-here_of : (clients : List Client) (n : ℕ) (x : Client) (o : Option Client) → slice_get clients n ≡ o → if_here o ≡ Some x → IsHereAt clients n x
-here_of clients n x None there e = absurd (none_some e)
-here_of clients n x (Some y) there e =
-    let h = if_here_is y y.is_here refl x e in
-    record { there = there ∙ ap (λ (y : Client). Some y) h.0; here = subst (λ (y : Client). y.is_here ≡ true) h.0 h.1 }
-
-pub here_at : (t : Table) (n : ℕ) (x : Client) → client_here t n ≡ Some x → IsHereAt t.clients n x
-unfolding client_here
-here_at t n x e = here_of t.clients n x (slice_get t.clients n) refl e
 
 pub here_from : (t : Table) (n : ℕ) (x : Client) → slice_get t.clients n ≡ Some x → x.is_here ≡ true → client_here t n ≡ Some x
 unfolding client_here

@@ -34,10 +34,11 @@ use Rattle.server_table.specs.Establishing.{Leased, address_by, ccd_in, client_e
 use Rattle.server_table.specs.Exchange.{asks_to_be_established, established_as_asked, established_if, established_on, exchange, exchange_for, exchange_made, exchange_with, message_came, messages_taken, messages_taken_by, messages_taken_for, messages_taken_of, messages_taken_upto, most_messages, other_message, policy_with, push_request, requested, requested_as}
 use Rattle.server_laws.specs.HandedOn.{carrying}
 use Rattle.server_laws.specs.WellKept.{HaveKeys}
-use Rattle.server_laws.proofs.Places.{first_is, get_changed, get_other, none_some, some_same}
+use Rattle.server_table.proofs.Places.{first_is, get_changed, get_other, none_some, some_same}
 use Rattle.server_laws.proofs.Peers.{keys_at}
 use Rattle.server_laws.proofs.CallsKeep.{CallKept, call_same, engine_call, exchange_call, message_call}
-use Rattle.server_laws.proofs.Closed.{IsClosed, IsReady, altered, ended_kept, here_at, reported_kept, turned_kept}
+use Rattle.server_table.proofs.Keeps.{here_at}
+use Rattle.server_laws.proofs.Closed.{IsClosed, IsReady, altered, ended_kept, reported_kept, turned_kept}
 
 -- ---- what is told
 

@@ -38,7 +38,7 @@ use Rattle.server_table.specs.InnerPackets.{dequeued, device_ready, is_host_of, 
 use Rattle.server_table.specs.Step.{device_came, device_passed, halted, line_came, line_said}
 use Rattle.server_table.specs.Time.{client_ticked, clients_ticked, count_line_if, count_lines, counts_are_due, is_counted, ping_is_due, pinged, pinged_if, tick, tick_for, ticking_for, told_counts}
 use Rattle.server_laws.specs.HandedOn.{carrying}
-use Rattle.server_laws.proofs.Places.{get_last}
+use Rattle.server_table.proofs.Places.{get_last}
 use Rattle.server_laws.proofs.CallsKeep.{call_same, control_call, data_call, tick_call}
 use Rattle.server_laws.proofs.Closed.{DealsWith, Goes, IsClosed, SealsOf, acted_kept, altered, here_from, reported_kept, turned_kept}
 use Rattle.server_laws.proofs.Verdicts.{owned_to_client, owned_to_device}

@@ -36,8 +36,9 @@ use Rattle.server_table.specs.Step.{device_came, device_passed}
 use Rattle.server_laws.specs.Accepted.{IsLastWithKeys}
 use Rattle.server_laws.specs.HandedOn.{DoesLast, GoesOn, IsDealtWith, IsKeySpent, IsQueued, IsReason, IsReported, IsSealed, IsSealedTo, IsSpentFor, is_aside, sealed_by, sealed_in, verdict_on}
 use Rattle.server_laws.specs.WellKept.{AreNamed, AreThoseEstablished, HaveKeys, rows_at, rows_for, rows_with}
-use Rattle.server_laws.proofs.Places.{get_changed, none_some, some_same}
-use Rattle.server_laws.proofs.Closed.{here_at, here_from}
+use Rattle.server_table.proofs.Places.{get_changed, none_some, some_same}
+use Rattle.server_table.proofs.Keeps.{here_at}
+use Rattle.server_laws.proofs.Closed.{here_from}
 use Rattle.server_laws.proofs.ClosedSteps.{learned_kept, moved_kept}
 use Rattle.server_laws.proofs.KeptTables.{Good, good_closed, good_deals}
 use Rattle.server_laws.proofs.Opening.{last_is}

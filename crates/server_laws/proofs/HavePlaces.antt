@@ -17,7 +17,7 @@ use Rattle.peer_table.specs.Naming.{number_of, place_at, place_numbered}
 use Rattle.peer_table.specs.Peer.{Peer}
 use Rattle.server_table.specs.ControlDatagrams.{control_place}
 use Rattle.server_table.specs.DataDatagrams.{data_place, place_found}
-use Rattle.server_laws.proofs.Places.{get_changed, get_last}
+use Rattle.server_table.proofs.Places.{get_changed, get_last}
 
 err_ok : {X Y : Type 0} {e : Y} {x : X} → Err e ≡ Ok x → ⊥
 err_ok {X = X} {Y = Y} same = false≢true (ap (λ (r : Result X Y). is_ok r) same)

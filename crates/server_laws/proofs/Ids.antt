@@ -11,11 +11,12 @@ use Rattle.server_table.specs.Courses.{Course}
 use Rattle.server_table.specs.ControlDatagrams.{client_begun, session_begun}
 use Rattle.server_table.specs.Endings.{gone}
 use Rattle.server_table.specs.Establishing.{with_address}
-use Rattle.server_laws.proofs.Places.{get_appended, some_same, went_changed}
+use Rattle.server_table.proofs.Places.{get_appended, some_same, went_changed}
 use Rattle.server_laws.specs.Wraps.{WrapsStay}
 use Rattle.server_laws.proofs.Peers.{AreKept, KeysFrom, from_same, from_then, kept_same, kept_then}
 use Rattle.server_laws.proofs.CallsKeep.{close_call}
-use Rattle.server_laws.proofs.Closed.{DealsWith, IsClosed, at_place, here_at}
+use Rattle.server_table.proofs.Keeps.{here_at}
+use Rattle.server_laws.proofs.Closed.{DealsWith, IsClosed, at_place}
 use Rattle.server_laws.proofs.Everything.{seals_all}
 
 -- a client is there still, with all ids of its sessions

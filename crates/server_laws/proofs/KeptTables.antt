@@ -21,9 +21,10 @@ use Rattle.server_table.specs.Endings.{gone}
 use Rattle.server_table.specs.Establishing.{ccd_in, host_route, networks_of, with_address}
 use Rattle.server_table.specs.InnerPackets.{most_queued}
 use Rattle.server_laws.specs.WellKept.{AreNamed, AreOfOwners, AreThoseEstablished, HaveKeys, IsClientKept, IsKnown, IsWellKept, rows_with}
-use Rattle.server_laws.proofs.Places.{WasChanged, got_appended, got_changed, none_some, some_same}
+use Rattle.server_table.proofs.Places.{WasChanged, got_appended, got_changed, none_some, some_same}
 use Rattle.server_laws.proofs.Peers.{HadKeys, PeerExchanged, PeerKept, all_closed_kept, peer_same}
-use Rattle.server_laws.proofs.Closed.{ClientKept, DealsWith, IsClosed, IsReady, at_place, here_at}
+use Rattle.server_table.proofs.Keeps.{here_at}
+use Rattle.server_laws.proofs.Closed.{ClientKept, DealsWith, IsClosed, IsReady, at_place}
 use Rattle.server_laws.proofs.Rows.{StaysAt, appended_reads, changed_reads, ended_those, established_those, kept_owned, learnt_owned, reads_same}
 use Rattle.server_laws.proofs.Everything.{seals_all}
 

@@ -56,9 +56,10 @@ use Rattle.server_table.specs.Step.{came, course_begun, datagram_as, is_over, mo
 use Rattle.server_laws.specs.Accepted.{Accepts}
 use Rattle.server_laws.specs.LastTaken.{IsApart, IsPlaceAmong, IsPlaceOf, TellsPlace, WentToSession}
 use Rattle.server_laws.specs.WellKept.{IsWellKept}
-use Rattle.server_laws.proofs.Closed.{DealsWith, IsClosed, at_place, here_at}
+use Rattle.server_table.proofs.Keeps.{here_at}
+use Rattle.server_laws.proofs.Closed.{DealsWith, IsClosed, at_place}
 use Rattle.server_laws.proofs.Everything.{came_apart, seals_all}
-use Rattle.server_laws.proofs.Places.{get_changed, none_some, some_same, went_changed}
+use Rattle.server_table.proofs.Places.{get_changed, none_some, some_same, went_changed}
 use Rattle.server_laws.proofs.Steps.{accepted_step, by_over, found_from, here_begun, step_goes}
 
 -- ---- calls that leave the places of key sessions

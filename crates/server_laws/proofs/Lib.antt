@@ -1,4 +1,3 @@
-pub mod Places
 pub mod Peers
 pub mod Closed
 pub mod ClosedEngine

@@ -13,7 +13,7 @@ use Rattle.peer_table.specs.Orderly.{IsOrderly, all_before_have_keys}
 use Rattle.peer_table.specs.Peer.{Peer, answered, other}
 use Rattle.peer_table.specs.DataPackets.{data_came, data_kid, opened_as, opened_by, opened_in, opened_judged, opened_under, with_received}
 use Rattle.server_laws.specs.Accepted.{IsLast, IsLastWithKeys, IsOneBefore, IsOneOf, IsUsable}
-use Rattle.server_laws.proofs.Places.{none_some, some_same}
+use Rattle.server_table.proofs.Places.{none_some, some_same}
 
 err_ok : {X Y : Type 0} {e : Y} {x : X} → Err e ≡ Ok x → ⊥
 err_ok {X = X} {Y = Y} same = false≢true (ap (λ (r : Result X Y). is_ok r) same)

@@ -14,8 +14,9 @@ use Rattle.server_table.specs.Establishing.{networks_of}
 use Rattle.server_table.specs.Sound.{IsEstablishedAt}
 use Rattle.server_table.specs.Step.{course_begun, step}
 use Rattle.server_laws.specs.WellKept.{FollowRows, rows_without}
-use Rattle.server_laws.proofs.Places.{some_same}
-use Rattle.server_laws.proofs.Closed.{DealsWith, IsClosed, here_at}
+use Rattle.server_table.proofs.Places.{some_same}
+use Rattle.server_table.proofs.Keeps.{here_at}
+use Rattle.server_laws.proofs.Closed.{DealsWith, IsClosed}
 use Rattle.server_laws.proofs.Everything.{came_kept, seals_all}
 use Rattle.server_laws.proofs.Ids.{AllKept, all_same, since_closed}
 use Rattle.server_laws.proofs.Rows.{without_append}

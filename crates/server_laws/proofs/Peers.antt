@@ -37,7 +37,7 @@ use Rattle.peer_table.specs.DataPackets as packets
 use Rattle.peer_table.specs.DataPackets.{data_came, ids_are_spent, opened_as, opened_by, opened_in, opened_judged, opened_under, sealed_by, sealed_in, sealed_to}
 use Rattle.peer_table.specs.Time.{Ticking, all_closed, gone_by, is_late, renewed, renews, resent, resent_in, retired, staying, ticked, ticked_idle, ticked_late}
 use Rattle.server_laws.specs.WellKept.{HaveKeys}
-use Rattle.server_laws.proofs.Places.{WasChanged, get_appended, got_appended, got_changed, none_some, some_same, went_changed}
+use Rattle.server_table.proofs.Places.{WasChanged, get_appended, got_appended, got_changed, none_some, some_same, went_changed}
 
 -- ---- one of two tests holds
 

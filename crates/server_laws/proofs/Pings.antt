@@ -29,9 +29,10 @@ use Rattle.server_table.specs.Step.{came, course_begun, step}
 use Rattle.server_table.specs.Time.{client_ticked, clients_ticked, count_lines, counts_are_due, ping_is_due, pinged, pinged_if, tick, tick_for, ticking_for, told_counts}
 use Rattle.server_laws.specs.HandedOn.{IsPingToOneHere, carrying, is_carrying}
 use Rattle.server_laws.specs.WellKept.{IsWellKept}
-use Rattle.server_laws.proofs.Places.{get_other}
+use Rattle.server_table.proofs.Places.{get_other}
 use Rattle.server_laws.proofs.CallsKeep.{tick_call}
-use Rattle.server_laws.proofs.Closed.{here_at, turned_kept}
+use Rattle.server_table.proofs.Keeps.{here_at}
+use Rattle.server_laws.proofs.Closed.{turned_kept}
 use Rattle.server_laws.proofs.ClosedSteps.{lines_quiet, sealed_to_kept}
 use Rattle.server_laws.proofs.Dealing.{GoesTo, Sent, Spent as IsSpent, goes_to}
 use Rattle.server_laws.proofs.KeptTables.{Good, good_closed, good_deals}

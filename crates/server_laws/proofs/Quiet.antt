@@ -25,7 +25,8 @@ use Rattle.server_table.specs.Establishing.{ccd_in, establishing_lines, network_
 use Rattle.server_table.specs.InnerPackets.{sealed_with}
 use Rattle.server_laws.specs.HandedOn.{IsSealedPing, carrying, is_aside, is_carrying}
 use Rattle.server_laws.specs.Waiting.{given, given_by}
-use Rattle.server_laws.proofs.Closed.{IsClosed, SealsOf, here_at}
+use Rattle.server_table.proofs.Keeps.{here_at}
+use Rattle.server_laws.proofs.Closed.{IsClosed, SealsOf}
 use Rattle.server_laws.proofs.ClosedEngine.{reply_quiet}
 use Rattle.server_laws.proofs.Everything.{seals_all}
 use Rattle.server_laws.proofs.KeptTables.{Good, good_closed}

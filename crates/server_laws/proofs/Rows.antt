@@ -16,7 +16,7 @@ use Rattle.server_table.specs.Establishing.{networks_of, with_address}
 use Rattle.server_table.specs.Sound.{IsEstablishedAt}
 use Rattle.server_laws.specs.Accepted.{IsOneOf}
 use Rattle.server_laws.specs.WellKept.{AreDistinct, AreInTime, AreOfOwners, AreThoseEstablished, rows_at, rows_for, rows_with, since_at, since_of}
-use Rattle.server_laws.proofs.Places.{WasChanged, get_appended, get_changed, get_other, got_appended, got_changed, some_same, went_changed}
+use Rattle.server_table.proofs.Places.{WasChanged, get_appended, get_changed, get_other, got_appended, got_changed, some_same, went_changed}
 
 -- ---- what is read of the client at a place
 

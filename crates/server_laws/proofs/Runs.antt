@@ -26,12 +26,13 @@ use Rattle.server_table.specs.Step.{course_begun, is_over, moment_of, step}
 use Rattle.server_laws.specs.Accepted.{Accepts, IsAccepted}
 use Rattle.server_laws.specs.HandedOn.{DoesLast, GoesOn, IsDealtWith, IsForward, IsFull, IsOn, IsReason, IsReported, IsSentOn, IsSpent, IsSpentFor, verdict_on}
 use Rattle.server_laws.specs.WellKept.{IsWellKept}
-use Rattle.server_laws.proofs.Closed.{DealsWith, IsClosed, here_at}
+use Rattle.server_table.proofs.Keeps.{here_at}
+use Rattle.server_laws.proofs.Closed.{DealsWith, IsClosed}
 use Rattle.server_laws.proofs.Everything.{came_kept, seals_all}
 use Rattle.server_laws.proofs.Ids.{AllKept, HasAccepted, KeptSince, all_same, has_one, has_still, since_closed, since_deals}
 use Rattle.server_laws.proofs.KeptTables.{Good, good_closed, good_deals, parts_kept, whole_kept}
 use Rattle.server_laws.proofs.Opening.{fresh_is_new}
-use Rattle.server_laws.proofs.Places.{none_some, some_same}
+use Rattle.server_table.proofs.Places.{none_some, some_same}
 use Rattle.server_laws.proofs.Steps.{accepted_has, by_over, good_begun, step_stays}
 
 -- ---- tables are kept well

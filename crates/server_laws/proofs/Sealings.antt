@@ -24,10 +24,11 @@ use Rattle.server_table.specs.Step.{course_begun, course_of, step}
 use Rattle.server_laws.specs.HandedOn.{carrying, sealed_by, sealed_in}
 use Rattle.server_laws.specs.Sealings.{AreRising, AreSealings, HasKeysAt, IsSealedRising, IsSealing, Sealing}
 use Rattle.server_laws.specs.WellKept.{IsWellKept}
-use Rattle.server_laws.proofs.Places.{get_changed}
+use Rattle.server_table.proofs.Places.{get_changed}
 use Rattle.server_laws.proofs.Peers.{AreKept}
 use Rattle.server_laws.proofs.Runs.{lacking_since}
-use Rattle.server_laws.proofs.Closed.{DealsWith, IsClosed, here_at}
+use Rattle.server_table.proofs.Keeps.{here_at}
+use Rattle.server_laws.proofs.Closed.{DealsWith, IsClosed}
 use Rattle.server_laws.proofs.ClosedEngine.{reply_quiet}
 use Rattle.server_laws.proofs.Everything.{came_kept}
 use Rattle.server_laws.proofs.Ids.{AllKept, all_same, all_then, since_closed, since_deals}

@@ -33,8 +33,8 @@ use Rattle.server_table.specs.Step.{came, course_begun, course_of, datagram_as, 
 use Rattle.server_laws.specs.Accepted.{Accepts, IsAccepted, IsUsable}
 use Rattle.server_laws.specs.HandedOn.{Brings, BringsNone, BringsOne, DoesLast, GoesOn, IsDealtWith, IsHandedOn, IsQueued, IsReported, IsSealed, carrying, sealed_by, sealed_in}
 use Rattle.server_laws.specs.WellKept.{IsWellKept}
-use Rattle.server_laws.proofs.Places.{first_is, get_changed, none_passes, some_same}
-use Rattle.server_laws.proofs.Closed.{here_at}
+use Rattle.server_table.proofs.Places.{first_is, get_changed, none_passes, some_same}
+use Rattle.server_table.proofs.Keeps.{here_at}
 use Rattle.server_laws.proofs.ClosedSteps.{accepted_kept, arrived_kept, carried_kept, moved_kept}
 use Rattle.server_laws.proofs.Dealing.{IsAbout, carried_dealt, moved_about}
 use Rattle.server_laws.proofs.Ids.{HasAccepted, all_same, has_still, now_accepted, since_closed, since_deals}

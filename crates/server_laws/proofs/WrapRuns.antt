@@ -26,8 +26,9 @@ use Rattle.server_table.specs.Runs.{Entry, after, after_all, after_lacking}
 use Rattle.server_table.specs.Sound.{AtMostOne, IsSound}
 use Rattle.server_table.specs.Step.{came, course_begun, datagram_as, moment_of, step}
 use Rattle.server_laws.specs.Wraps.{AcceptsWrap, Admits, ComesWrapped, HasWrap, IsAdmitting, IsFreshOf, IsOf}
-use Rattle.server_laws.proofs.Places.{first_is, get_changed, none_passes, none_some, some_same}
-use Rattle.server_laws.proofs.Closed.{here_at, here_from}
+use Rattle.server_table.proofs.Places.{first_is, get_changed, none_passes, none_some, some_same}
+use Rattle.server_table.proofs.Keeps.{here_at}
+use Rattle.server_laws.proofs.Closed.{here_from}
 use Rattle.server_laws.proofs.ClosedSteps.{answered_kept, last_here}
 use Rattle.server_laws.proofs.Ids.{AllKept, all_same, since_closed}
 use Rattle.server_laws.proofs.Runs.{after_parts}

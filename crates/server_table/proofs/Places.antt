@@ -106,3 +106,17 @@ none_passes passes (y ∷ xs) e zero x there =
     ap passes (sym (some_same there)) ∙ (none_step passes y xs (passes y) (first_place passes xs) refl e).0
 none_passes passes (y ∷ xs) e (suc i) x there =
     none_passes passes xs (none_step passes y xs (passes y) (first_place passes xs) refl e).1 i x there
+
+-- where an item stands in a changed list: changed at its place, or as it was
+pub went_changed : {X : Type 0} (n i : ℕ) (f : X → X) (xs : List X) (x : X) → slice_get xs i ≡ Some x →
+    ((i ≡ n) × (slice_get (changed_at n f xs) i ≡ Some (f x))) ⊎ (slice_get (changed_at n f xs) i ≡ Some x)
+went_changed n i f [] x e = absurd (none_some e)
+went_changed zero zero f (y ∷ xs) x e = inl (refl, ap (λ z. Some (f z)) (some_same e))
+went_changed zero (suc i) f (y ∷ xs) x e = inr e
+went_changed (suc n) zero f (y ∷ xs) x e = inr e
+went_changed (suc n) (suc i) f (y ∷ xs) x e = next (went_changed n i f xs x e)
+  where
+    next : ((i ≡ n) × (slice_get (changed_at n f xs) i ≡ Some (f x))) ⊎ (slice_get (changed_at n f xs) i ≡ Some x) →
+        ((suc i ≡ suc n) × (slice_get (changed_at n f xs) i ≡ Some (f x))) ⊎ (slice_get (changed_at n f xs) i ≡ Some x)
+    next (inl w) = inl (ap suc w.0, w.1)
+    next (inr e) = inr e

@@ -1,4 +1,3 @@
-pub mod Appending
 pub mod Runs
 pub mod Counting
 pub mod Answers

@@ -12,7 +12,7 @@ use Rattle.route_file.specs.Progress.{Progress, outcome_with, Ends}
 use Rattle.vpn_top.specs.Partly.{AppendedPart}
 use Rattle.vpn_top.specs.Written.{Printed, PrintedPart, IsWhole, IsFile}
 use Rattle.vpn_top.specs.internal.Going.{Going, IsFront, IsEnd, IsNext, Settled}
-use Rattle.vpn_top.proofs.Appending.{appended-appended, appended-nil}
+use Rattle.replay_links.proofs.Appending.{appended-appended, appended-nil}
 
 -- the whole output is written
 pub all_written : (h : Holding) (before c after : Option (List ℕ)) (text : List ℕ) (fault : Option (ℕ × TextKind)) →

@@ -5,7 +5,7 @@ use Rattle.std.proofs.lemmas.Result.{on_ok_weaker}
 use Rattle.control_link.specs.Links.{Link, LinkStands}
 use Rattle.control_link.specs.Calls.{after_text}
 use Rattle.control_link.specs.Reading.{read_here, texts_here}
-use Rattle.control_link.proofs.RunLaws.{read_no_more, no_more_texts, none_read, none_texts, one_read, one_text}
+use Rattle.control_link.proofs.RunLaws.{read_no_more, no_more_texts, none_read, none_texts, one_read, one_behind}
 use Rattle.control_link.proofs.runs.+read_texts.Goals as goal
 
 pub returns-then-most-eq0-clause-stands : goal.returns-then-most-eq0-clause-stands
@@ -39,5 +39,5 @@ returns-in_ok-extend_from_slice-in-Some-clause-text t c =
     (λ (rest : (l : Link) → LinkStands c.next_in_order.new.self l → c.read_texts.new.text.items ≡ c.extend_from_slice.new.self.items ++ concat (texts_here (c.args.most - 1) l)). λ l s.
     rest (after_text l) (c.in-Some.ensures.stands l s)
     ∙ ap (λ (p : List ℕ). p ++ concat (texts_here (c.args.most - 1) (after_text l))) added
-    ∙ one_text c.args.most l c.in-Some.payload c.args.text.now.items c.if-most-eq0.false (sym (c.in-Some.ensures.text l s)))
+    ∙ one_behind c.args.most l c.in-Some.payload c.args.text.now.items c.if-most-eq0.false (sym (c.in-Some.ensures.text l s)))
     c.read_texts.ensures.text

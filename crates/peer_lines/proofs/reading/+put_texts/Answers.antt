@@ -10,7 +10,8 @@ use Rattle.control_link.specs.Reading.{read_here, texts_here}
 use Rattle.peer_table.specs.ControlPackets.{puts}
 use Rattle.peer_table.specs.Outboxes.{actions_of}
 use Rattle.peer_lines.specs.Standing.{NoneIsLonger}
-use Rattle.peer_lines.proofs.Texts.{frame_text, no_more_texts, none_read, none_texts, one_read, one_text, puts_on, read_no_more, room_left, short_text}
+use Rattle.control_link.proofs.RunLaws.{no_more_texts, none_read, none_texts, one_read, one_text, read_no_more}
+use Rattle.peer_lines.proofs.Texts.{frame_text, puts_on, room_left, short_text}
 use Rattle.peer_lines.proofs.reading.+put_texts.Goals as goal
 
 not_less : (n m : ℕ) → m ≤ n → n < m → ⊥

@@ -1,5 +1,5 @@
 use Rattle.std.proofs.Common.{arith, length-drop}
-use Rattle.vpn_top.proofs.Appending.{more_written, suffix}
+use Rattle.replay_links.proofs.Appending.{more_written, suffix}
 use Rattle.vpn_top.proofs.writing.write_all.Goals as goal
 
 pub loop-at-preserved : goal.loop-at-preserved
