@@ -11,7 +11,8 @@ use Rattle.key_sessions.specs.Runs.{closing_of, kind_of}
 use Rattle.key_sessions.specs.declared.runs.BareText.{BareText}
 use Rattle.key_sessions.specs.declared.slot.Newest.{Newest}
 use Rattle.key_sessions.specs.declared.runs.SlotAnswer.TheVariants.{Closed}
-use Rattle.key_sessions.specs.internal.Courses.{bare_stands, closing_told}
+use Rattle.key_sessions.specs.BareTexts.{bare_stands}
+use Rattle.key_sessions.specs.internal.Courses.{closing_told}
 use Rattle.key_sessions.proofs.Usable.{retired_one}
 
 kind_by : (n : ℕ) (o : Option Session) (seen : Newest) → Rattle.std.specs.Prelude.option_map (newest_as n) o ≡ Some seen → kind_of o ≡ seen.stage

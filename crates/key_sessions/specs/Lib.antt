@@ -4,5 +4,6 @@ pub mod Slots
 pub mod Changes
 pub mod Looks
 pub mod Lending
+pub mod BareTexts
 pub mod Runs
 pub mod internal

@@ -12,7 +12,8 @@ ghost use Rattle.peer_table.specs.EngineAnswers.{kept_name};
 ghost use Rattle.peer_table.specs.KeySessions.{newest_session, usable_with};
 ghost use Rattle.key_sessions.specs.Slots.{IsWhole, SlotsStand, newest_name, newest_stage};
 ghost use Rattle.key_sessions.specs.Runs.{answers_of, begun_at, event_comes, exchanged_at, kind_of, named_at, retired_by, usable_of};
-ghost use Rattle.key_sessions.specs.internal.Courses.{Comes, IsAt, bare_stands, closing_told};
+ghost use Rattle.key_sessions.specs.BareTexts.{bare_stands};
+ghost use Rattle.key_sessions.specs.internal.Courses.{Comes, IsAt, closing_told};
 
 use crate::name::NameFault;
 use crate::session::{KeySession, NoCipher};

@@ -1,6 +1,5 @@
 -- Where the slots of a run are.
 use Rattle.std.specs.Prelude.{◌≡◌, ℕ, List, Option, Some, None}
-use Rattle.peer_table.specs.KeySessions.{Session}
 use Rattle.peer_table.specs.Peer.{Peer}
 use Rattle.vpn_base.specs.declared.names.Timers.{Timers}
 use Rattle.key_sessions.specs.declared.runs.BareText.{BareText}
@@ -8,11 +7,8 @@ use Rattle.key_sessions.specs.declared.runs.SlotAnswer.{SlotAnswer}
 use Rattle.key_sessions.specs.declared.runs.SlotAnswer.TheVariants.{Nothing, Closed}
 use Rattle.key_sessions.specs.Runs.{Outcome}
 use Rattle.key_sessions.specs.declared.slots.Slots.{Slots}
+use Rattle.key_sessions.specs.BareTexts.{bare_stands}
 use Rattle.key_sessions.specs.Slots.{IsWhole, SlotsStand}
-
--- a bare text stands for the sessions on its connection
-abbrev pub bare_stands : BareText → Session → Type 0
-bare_stands text s = text.conn ≡ s.link.conn
 
 -- the slots stand for the sessions of a peer with these timers, all texts are there, and its name is known
 pub record IsAt (settings : Timers) (slots : Slots BareText) (known : Option (List ℕ)) (p : Peer) : Type 0 where
