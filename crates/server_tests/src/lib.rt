@@ -6,6 +6,8 @@ mod clients;
 #[cfg(test)]
 mod commands;
 #[cfg(test)]
+mod first_client;
+#[cfg(test)]
 mod node;
 #[cfg(test)]
 mod outside;
@@ -13,3 +15,5 @@ mod outside;
 mod replay_lines;
 #[cfg(test)]
 mod replays;
+#[cfg(test)]
+mod steps;
