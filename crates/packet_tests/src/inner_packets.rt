@@ -1,3 +1,5 @@
+//! The addresses of an inner packet.
+
 use ip_packets::Inner;
 use std::test::Fail;
 use vpn_base::Ip4;

@@ -1,3 +1,5 @@
+//! Addresses that are taken, given back, and run out.
+
 use address_pool::{Pool, PoolEmpty, give_addresses};
 use std::test::Fail;
 use vpn_base::{Ip4, Or};

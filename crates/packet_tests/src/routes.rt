@@ -1,3 +1,5 @@
+//! Rows and learned hosts, and who owns an address by them.
+
 ghost use Rattle.std.specs.Prelude.{◌≡◌, ◌<◌};
 ghost use Rattle.route_table.specs.Owner.{owner};
 

@@ -1,3 +1,5 @@
+//! Verdicts on inner packets, each with the packet and the rows that it comes of.
+
 ghost use Rattle.std.specs.Prelude.{◌≡◌, ◌<◌};
 
 use inner_verdict::{Verdict, verdict_on};

@@ -1,3 +1,5 @@
+//! Clients that come, move, get names and leave.
+
 use client_table::{ClientTable, Full};
 use std::test::Fail;
 use vpn_base::{Addr, Cid, Ip4, Or, Sid, Text};

@@ -1,3 +1,5 @@
+//! Addresses with a port.
+
 use address_text::{read_addr, write_addr};
 use std::test::Fail;
 use vpn_base::{Addr, Ip4};

@@ -1,3 +1,5 @@
+//! What the file of a client says, and its first fault.
+
 use ccd_files::read_ccd;
 use vpn_base::{Ip4, Or, Prefix};
 use vpn_text::ConfigKind;

@@ -1,3 +1,5 @@
+//! Commands of the management interface, and the lines that answer them.
+
 use mgmt_lines::{
     Command, FixedLine, StatusRow, address_killed, address_not_found, count_line,
     lines_have_no_control, load_line, name_killed, name_not_found, own_count_line, queued_line,

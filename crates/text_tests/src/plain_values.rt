@@ -1,3 +1,5 @@
+//! Numbers, addresses, names, lists, and files and sinks in memory.
+
 ghost use Rattle.std.specs.Prelude.{◌≡◌, ◌<◌};
 
 use std::marker::Brand;

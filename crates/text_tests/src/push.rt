@@ -1,3 +1,5 @@
+//! Push replies in one part and in several, collected again, and refused.
+
 use push_options::{Collector, PushPlan, collects_a_reply, plan, reply};
 use std::alloc::Global;
 use std::test::Fail;

@@ -1,3 +1,5 @@
+//! Words of lines, as they are read and written, and masks.
+
 use std::test::Fail;
 use vpn_base::{Cipher, Ip4, Or, Prefix, TextList};
 use vpn_text::{
