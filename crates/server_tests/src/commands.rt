@@ -1,7 +1,7 @@
 //! Runs over files and sinks in memory: one for each kind of answer. The sealed bytes are those of
 //! Python's `cryptography`.
 
-use crate::first_client::{FIRST_CLIENT, FIRST_CLIENT_SERVED, KEY, SERVER};
+use crate::stories::{FIRST_CLIENT, KEY, SERVER};
 use std::alloc::Global;
 use std::test::Fail;
 use vpn_base::{Bytes, MemFiles, MemSink, Text};
@@ -181,8 +181,8 @@ fn answers(rt: HostRuntime) -> Result<(), Fail> {
             ..REPLAY
         },
         Case {
-            file: FIRST_CLIENT,
-            out: FIRST_CLIENT_SERVED,
+            file: FIRST_CLIENT.schedule,
+            out: FIRST_CLIENT.transcript,
             ..REPLAY
         },
         Case {

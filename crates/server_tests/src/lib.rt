@@ -6,8 +6,6 @@ mod clients;
 #[cfg(test)]
 mod commands;
 #[cfg(test)]
-mod first_client;
-#[cfg(test)]
 mod node;
 #[cfg(test)]
 mod outside;
@@ -17,3 +15,5 @@ mod replay_lines;
 mod replays;
 #[cfg(test)]
 mod steps;
+#[cfg(test)]
+mod stories;

@@ -1,6 +1,10 @@
 //! Steps of a server, event by event.
 
-use crate::first_client::{FIRST_CLIENT, FIRST_CLIENT_SERVED, KEY, SERVER};
+ghost use Rattle.vpn_links.specs.Rounds.{IsOfLine};
+
+use crate::stories::{
+    FILES, FIRST_CLIENT, FULL, KEY, POOL, QUEUE, RENEGOTIATIONS, Story, TRANSITION,
+};
 use ovpn_config::read_config;
 use peer_session::PeerSession;
 use schedule_text::{Line, draw, read_event_line, write_effect_line};
@@ -15,8 +19,8 @@ use vpn_links::{Event, Kind, Machine, Outbox};
 type Core = ServerCore<PeerSession<Wrapper>>;
 
 // A server to which nothing has come, or None where the configuration or the key is refused.
-fn begun(alloc: Global) -> Result<Option<Server<Core>>, NoMemory> {
-    let (Ok(settings), Ok(key)) = (read_config(alloc, SERVER), read_static_key(KEY)) else {
+fn begun(alloc: Global, configuration: &[u8]) -> Result<Option<Server<Core>>, NoMemory> {
+    let (Ok(settings), Ok(key)) = (read_config(alloc, configuration), read_static_key(KEY)) else {
         return Ok(None);
     };
     match settings.role {
@@ -25,8 +29,18 @@ fn begun(alloc: Global) -> Result<Option<Server<Core>>, NoMemory> {
     }
 }
 
-// Appends what an event does, one effect a line.
-fn tell(alloc: Global, number: u64, out: &Outbox, text: &mut Vec<u8>) -> Result<(), NoMemory> {
+// Takes one event, and appends what the server does, one effect a line.
+fn take(
+    alloc: Global,
+    server: &mut Server<Core>,
+    number: u64,
+    event: &Event,
+    text: &mut Vec<u8>,
+) -> Result<(), NoMemory>
+    requires { IsOfLine event.now.kind }
+{
+    let mut out = Outbox::make(alloc)?;
+    server.step(event, &mut out)?;
     for i in 0..out.count() {
         if let Some(effect) = out.effect(i) {
             let line = write_effect_line(alloc, number, &effect)?;
@@ -36,28 +50,62 @@ fn tell(alloc: Global, number: u64, out: &Outbox, text: &mut Vec<u8>) -> Result<
     Ok(())
 }
 
-// What the events of a schedule do to a server, up to its end, or None where a line is refused.
+// What the events of a schedule with its end do to a server, or None where a line is refused.
 fn served(
     alloc: Global,
     server: &mut Server<Core>,
     schedule: &[u8],
 ) -> Result<Option<Vec<u8>>, NoMemory> {
-    let mut out = Outbox::make(alloc)?;
     let mut text = Vec::new(alloc);
     let mut number = 0u8;
+    let mut now = Moment(0);
     for line in schedule.split(|b| *b == b'\n') {
-        match read_event_line(alloc, line, u64::from(number), 0) {
-            Ok(Line::Step(event)) => {
-                out.clear();
-                server.step(&event, &mut out)?;
-                tell(alloc, u64::from(number), &out, &mut text)?;
-                number = number.saturating_add(1);
-            }
-            Ok(_) => {}
+        let at = u64::from(number);
+        let event = match read_event_line(alloc, line, at, 0) {
+            Ok(Line::Step(event)) => event,
+            Ok(Line::End) => Event {
+                now,
+                draw: draw(at, 0),
+                kind: Kind::Halt,
+            },
+            Ok(_) => continue,
             Err(_) => return Ok(None),
-        }
+        };
+        take(alloc, server, at, &event, &mut text)?;
+        now = event.now;
+        number = number.saturating_add(1);
     }
     Ok(Some(text))
+}
+
+fn is_told(alloc: Global, story: &Story<'_>) -> Result<bool, NoMemory> {
+    let Some(mut server) = begun(alloc, story.configuration)? else {
+        return Ok(false);
+    };
+    match served(alloc, &mut server, story.schedule)? {
+        Some(text) => match story.transcript.strip_prefix(text.as_slice()) {
+            Some(rest) => Ok(rest.starts_with(b"done ")),
+            None => Ok(false),
+        },
+        None => Ok(false),
+    }
+}
+
+#[test]
+fn stories_are_told(rt: HostRuntime) -> Result<(), Fail> {
+    let stories = [
+        &FIRST_CLIENT,
+        &FULL,
+        &POOL,
+        &RENEGOTIATIONS,
+        &TRANSITION,
+        &QUEUE,
+        &FILES,
+    ];
+    for (i, story) in stories.iter().enumerate() {
+        assert!(rt; is_told(rt.alloc(), story)?, "story {i}");
+    }
+    Ok(())
 }
 
 const CLIENT: Addr = Addr {
@@ -74,20 +122,22 @@ const FIRST: Place = Place {
 };
 
 #[test]
-fn the_first_client_is_served(rt: HostRuntime) -> Result<(), Fail> {
+fn places_are_told(rt: HostRuntime) -> Result<(), Fail> {
     let alloc = rt.alloc();
-    let Some(mut server) = begun(alloc)? else {
+    let Some(mut server) = begun(alloc, FIRST_CLIENT.configuration)? else {
         assert!(rt; false);
         return Ok(());
     };
     assert_eq!(rt; server.last_taken(), None);
-    match served(alloc, &mut server, FIRST_CLIENT)? {
-        Some(text) => {
-            let wanted = FIRST_CLIENT_SERVED.strip_suffix(b"7 stop\ndone 8 lost 0\n");
-            assert!(rt; wanted == Some(text.as_slice()));
-        }
-        None => assert!(rt; false),
-    }
+    let Some(packets) = FIRST_CLIENT
+        .schedule
+        .strip_suffix(b"at 0 deviceready\nend\n")
+    else {
+        assert!(rt; false);
+        return Ok(());
+    };
+    assert!(rt; served(alloc, &mut server, packets)?.is_some());
+    assert_eq!(rt; server.last_taken(), Some(FIRST));
     // a data packet of key id 0 for peer id 0
     let mut packet = [0; 40];
     packet[0] = 0x48;
@@ -99,7 +149,7 @@ fn the_first_client_is_served(rt: HostRuntime) -> Result<(), Fail> {
 #[test]
 fn time_alone_does_nothing(rt: HostRuntime) -> Result<(), Fail> {
     let alloc = rt.alloc();
-    let Some(mut server) = begun(alloc)? else {
+    let Some(mut server) = begun(alloc, FIRST_CLIENT.configuration)? else {
         assert!(rt; false);
         return Ok(());
     };
