@@ -123,4 +123,8 @@ short_text n l payload none is =
 -- ---- how much room they take
 
 pub room_left : (most longest : ℕ) → most ≢ 0 → longest + (most - 1) * longest ≡ most * longest
-room_left most longest some = let e = suc-mul (most - 1) longest in let m = ap (λ (n : ℕ). n * longest) (less most some) in omega (arith, e, m)
+room_left most longest some =
+    let less : most ≡ suc (most - 1) = omega arith in
+    let e = suc-mul (most - 1) longest in
+    let m = ap (λ (n : ℕ). n * longest) less in
+    omega (arith, e, m)
