@@ -3,7 +3,7 @@
 ghost use Rattle.vpn_links.specs.Rounds.{IsOfLine};
 
 use crate::stories::{
-    FILES, FIRST_CLIENT, FULL, KEY, POOL, QUEUE, RENEGOTIATIONS, Story, TRANSITION,
+    FILES, FIRST_CLIENT, FULL, KEY, POOL, QUEUE, RENEGOTIATIONS, SERVER, Story, TRANSITION,
 };
 use ovpn_config::read_config;
 use peer_session::PeerSession;
@@ -50,30 +50,36 @@ fn take(
     Ok(())
 }
 
-// What the events of a schedule with its end do to a server, or None where a line is refused.
+// The most events of a schedule.
+const MOST: u64 = 1000;
+
+// What the first so many events of a schedule do to a server, its end among them, or None where a line is refused.
 fn served(
     alloc: Global,
     server: &mut Server<Core>,
     schedule: &[u8],
+    most: u64,
 ) -> Result<Option<Vec<u8>>, NoMemory> {
     let mut text = Vec::new(alloc);
-    let mut number = 0u8;
+    let mut number = 0;
     let mut now = Moment(0);
     for line in schedule.split(|b| *b == b'\n') {
-        let at = u64::from(number);
-        let event = match read_event_line(alloc, line, at, 0) {
+        if number >= most || number >= MOST {
+            break;
+        }
+        let event = match read_event_line(alloc, line, number, 0) {
             Ok(Line::Step(event)) => event,
             Ok(Line::End) => Event {
                 now,
-                draw: draw(at, 0),
+                draw: draw(number, 0),
                 kind: Kind::Halt,
             },
             Ok(_) => continue,
             Err(_) => return Ok(None),
         };
-        take(alloc, server, at, &event, &mut text)?;
+        take(alloc, server, number, &event, &mut text)?;
         now = event.now;
-        number = number.saturating_add(1);
+        number += 1;
     }
     Ok(Some(text))
 }
@@ -82,7 +88,7 @@ fn is_told(alloc: Global, story: &Story<'_>) -> Result<bool, NoMemory> {
     let Some(mut server) = begun(alloc, story.configuration)? else {
         return Ok(false);
     };
-    match served(alloc, &mut server, story.schedule)? {
+    match served(alloc, &mut server, story.schedule, MOST)? {
         Some(text) => match story.transcript.strip_prefix(text.as_slice()) {
             Some(rest) => Ok(rest.starts_with(b"done ")),
             None => Ok(false),
@@ -121,45 +127,69 @@ const FIRST: Place = Place {
     number: 0,
 };
 
-#[test]
-fn places_are_told(rt: HostRuntime) -> Result<(), Fail> {
-    let alloc = rt.alloc();
-    let Some(mut server) = begun(alloc, FIRST_CLIENT.configuration)? else {
-        assert!(rt; false);
-        return Ok(());
+// A server to which so many events of the first client have come.
+fn after(alloc: Global, events: u64) -> Result<Option<Server<Core>>, NoMemory> {
+    let Some(mut server) = begun(alloc, SERVER)? else {
+        return Ok(None);
     };
-    assert_eq!(rt; server.last_taken(), None);
-    let Some(packets) = FIRST_CLIENT
-        .schedule
-        .strip_suffix(b"at 0 deviceready\nend\n")
-    else {
-        assert!(rt; false);
-        return Ok(());
-    };
-    assert!(rt; served(alloc, &mut server, packets)?.is_some());
-    assert_eq!(rt; server.last_taken(), Some(FIRST));
-    // a data packet of key id 0 for peer id 0
-    let mut packet = [0; 40];
-    packet[0] = 0x48;
-    assert_eq!(rt; server.sent_by(CLIENT, &packet), Some(FIRST));
-    assert_eq!(rt; server.sent_by(CLIENT, b""), None);
-    Ok(())
+    match served(alloc, &mut server, FIRST_CLIENT.schedule, events)? {
+        Some(_) => Ok(Some(server)),
+        None => Ok(None),
+    }
+}
+
+fn last_taken_after(alloc: Global, events: u64) -> Result<Option<Place>, NoMemory> {
+    match after(alloc, events)? {
+        Some(server) => Ok(server.last_taken()),
+        None => Ok(None),
+    }
 }
 
 #[test]
-fn time_alone_does_nothing(rt: HostRuntime) -> Result<(), Fail> {
-    let alloc = rt.alloc();
-    let Some(mut server) = begun(alloc, FIRST_CLIENT.configuration)? else {
-        assert!(rt; false);
-        return Ok(());
+fn a_datagram_is_taken_by_a_key_session(rt: HostRuntime) -> Result<(), Fail> {
+    assert!(rt; last_taken_after(rt.alloc(), 1)? == Some(FIRST));
+    assert!(rt; last_taken_after(rt.alloc(), 2)? == None);
+    assert!(rt; last_taken_after(rt.alloc(), 6)? == Some(FIRST));
+    Ok(())
+}
+
+fn sent_by_after(alloc: Global, events: u64, packet: &[u8]) -> Result<Option<Place>, NoMemory> {
+    match after(alloc, events)? {
+        Some(server) => Ok(server.sent_by(CLIENT, packet)),
+        None => Ok(None),
+    }
+}
+
+#[test]
+fn a_data_packet_tells_its_sender(rt: HostRuntime) -> Result<(), Fail> {
+    // of key id 0 for peer id 0
+    let mut packet = [0; 40];
+    packet[0] = 0x48;
+    assert!(rt; sent_by_after(rt.alloc(), 4, &packet)? == Some(FIRST));
+    assert!(rt; sent_by_after(rt.alloc(), 0, &packet)? == None);
+    Ok(())
+}
+
+// What a server does to which time alone has come.
+fn ticked(alloc: Global) -> Result<Option<Vec<u8>>, NoMemory> {
+    let Some(mut server) = begun(alloc, SERVER)? else {
+        return Ok(None);
     };
-    let mut out = Outbox::make(alloc)?;
     let event = Event {
         now: Moment(86_400_000),
         draw: draw(0, 0),
         kind: Kind::Tick,
     };
-    server.step(&event, &mut out)?;
-    assert_eq!(rt; out.count(), 0);
+    let mut text = Vec::new(alloc);
+    take(alloc, &mut server, 0, &event, &mut text)?;
+    Ok(Some(text))
+}
+
+#[test]
+fn time_alone_does_nothing(rt: HostRuntime) -> Result<(), Fail> {
+    match ticked(rt.alloc())? {
+        Some(text) => assert!(rt; text.is_empty()),
+        None => assert!(rt; false),
+    }
     Ok(())
 }
