@@ -1,6 +1,6 @@
 -- Changes of a course that leave all lines, and put and open nothing; and the calls of a client that change a line.
-use Rattle.std.proofs.Common.{◌≡◌, ◌+◌, ℕ, Bool, true, false, List, [], ◌∷◌, ◌++◌, Option, Some, None, refl, sym, ap, ◌∙◌, subst, add-zero, append_assoc}
-use Rattle.std.specs.Prelude.{slice_get, if◌then◌else◌, option_map}
+use Rattle.std.proofs.Common.{◌≡◌, ◌+◌, ℕ, true, false, List, [], ◌∷◌, ◌++◌, Option, Some, None, refl, sym, ap, ◌∙◌, subst, add-zero, append_assoc}
+use Rattle.std.specs.Prelude.{slice_get, option_map}
 use Rattle.std.proofs.lemmas.Bool.{false≢true}
 use Rattle.vpn_base.specs.declared.names.Conn.{Conn}
 use Rattle.vpn_links.specs.Actions.{Action, EngineOpen}
@@ -11,10 +11,10 @@ use Rattle.peer_table.specs.KeySessions.{kid_of}
 use Rattle.peer_table.specs.Outboxes.{action_of, actions_of}
 use Rattle.peer_table.specs.Peer.{Closes, Doing, Opens, Outcome, Peer, Puts, Writes}
 use Rattle.peer_table.specs.Places.{changed_at}
-use Rattle.server_table.specs.Table.{Client, Table}
-use Rattle.server_table.specs.Lookups.{client_here, if_here}
+use Rattle.server_table.specs.Table.{Client}
+use Rattle.server_table.specs.Lookups.{client_here}
 use Rattle.server_table.specs.Courses.{Course, acted, did, opened_by}
-use Rattle.control_laws.proofs.Actions.{are_quiet, none_some, some_same}
+use Rattle.control_laws.proofs.Actions.{are_quiet}
 use Rattle.control_laws.proofs.Lines.{ItemPut, Line, LinePut, changed_put, client_lines, client_put, get_map, line_at, line_in, lines_in, lines_of, map_append, map_changed, map_put}
 use Rattle.control_laws.proofs.Kept.{Before, Kept, KeptParts, begun_line, lines_kept, quiet_kept}
 use Rattle.control_laws.proofs.Begins.{begins_kept}

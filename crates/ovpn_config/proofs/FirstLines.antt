@@ -1,11 +1,10 @@
 -- The first of some lines, with those behind it.
-use Rattle.std.proofs.Common.{◌≡◌, ℕ, ◌+◌, ◌<◌, ◌==◌, ◌||◌, List, [], ◌∷◌, ◌++◌, length, Bool, true, false, cond, Option, Some, refl, ap, sym, ◌∙◌, arith}
-use Rattle.std.specs.Prelude.{option_map, bytes_eq, All}
+use Rattle.std.proofs.Common.{◌≡◌, ℕ, ◌+◌, ◌<◌, ◌==◌, List, [], ◌∷◌, ◌++◌, length, true, false, Option, refl, ap, ◌∙◌, arith}
+use Rattle.std.specs.Prelude.{All}
 use Rattle.std.specs.List.{slice_split}
 use Rattle.std.proofs.lemmas.List.Splits.{slice_split_at, length-slice_split}
 use Rattle.vpn_base.specs.Lines.{Line, content, lines_of, lines_of_parts, size}
-use Rattle.vpn_text.specs.ConfigLine.{is_over}
-use Rattle.config_directives.specs.Entries.{block_behind, entries, line_behind, line_entries, line_with, until_end}
+use Rattle.config_directives.specs.Entries.{block_behind, entries, line_behind, line_entries, line_with}
 
 more_parts : (line : List ℕ) (parts : List (List ℕ)) → 0 < length parts → lines_of_parts (line ∷ parts) ≡ record { body = line; ended = true } ∷ lines_of_parts parts
 more_parts line [] some = absurd (omega arith)

@@ -15,7 +15,7 @@ use Rattle.reliable_recv.specs.Receiving.{Arrival, Receiving, after_next, got, n
 use Rattle.control_link.specs.Calls.{after_given, after_text, next_text, past_reset, put_if, received}
 use Rattle.control_link.specs.Envelope.{EnvelopeHistory}
 use Rattle.control_link.specs.Links.{Link}
-use Rattle.control_link.specs.Reading.{read_here, read_with, texts_here, texts_with}
+use Rattle.control_link.specs.Reading.{read_here, read_with}
 use Rattle.peer_table.specs.ControlPackets.{puts}
 use Rattle.peer_table.specs.Outboxes.{actions_of}
 use Rattle.peer_lines.specs.Standing.{NoneIsLonger}

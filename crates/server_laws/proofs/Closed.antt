@@ -26,7 +26,7 @@ use Rattle.server_table.specs.ControlDatagrams.{client_begun, session_begun, wit
 use Rattle.server_table.specs.DataDatagrams.{went_to}
 use Rattle.server_laws.specs.HandedOn.{carrying}
 use Rattle.server_laws.specs.WellKept.{HaveKeys}
-use Rattle.server_table.proofs.Places.{none_some, some_same}
+use Rattle.server_table.proofs.Places.{some_same}
 use Rattle.server_laws.proofs.CallsKeep.{CallKept, ExchangeKept}
 use Rattle.server_table.proofs.Keeps.{here_at}
 
